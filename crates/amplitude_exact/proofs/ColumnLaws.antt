@@ -15,7 +15,7 @@ use Rattle.unitary_model.specs.declared.Op.{Op}
 use Rattle.unitary_model.specs.declared.Op.TheVariants.{U, Cx}
 use Rattle.amplitude_exact.specs.declared.values.Value.{Value}
 use Rattle.amplitude_exact.specs.Entries.{IsEntry, branches}
-use Rattle.amplitude_exact.specs.Columns.{bits, IsWithin, IsValue, IsColumn, IsSmall}
+use Rattle.amplitude_exact.specs.Columns.{bits, IsWithin, IsValue, IsColumn, IsSmallColumn}
 use Rattle.amplitude_exact.specs.Values.{ring_of}
 use Rattle.unitary_model.specs.Ring.{nought, unit}
 use Rattle.unitary_model.specs.Amplitude.{same_bits, amplitude}
@@ -38,7 +38,7 @@ value-set n us y vs i v k d l m before here = go (split k i m)
         subst (λ (w : Value). IsValue n us y k (ring_of w)) (sym (get_or-set_other vs i k v d ne)) (before h)
     go (inr h) = subst (λ (w : Value). IsValue n us y k (ring_of w)) (sym (get_or-set_at vs i k v d h l)) (subst (λ j. IsValue n us y j (ring_of v)) (sym h) here)
 
-column_small : (n : ℕ) (us : List Op) (y : List Bool) (vs : List Value) → branches us ≤ 60 → IsColumn n us y vs → IsSmall vs
+column_small : (n : ℕ) (us : List Op) (y : List Bool) (vs : List Value) → branches us ≤ 60 → IsColumn n us y vs → IsSmallColumn vs
 column_small n us y vs few h i d l = within-more (4 ^ branches us) (2 ^ 120) _ le (h.each i d (omega (arith, h.long, l))).within
   where
     le : 4 ^ branches us ≤ 2 ^ 120
@@ -80,8 +80,8 @@ branches-drop (U a b c q ∷ us) (suc k) = go (a == 0 || a == 4) (branches-drop 
     go true h = h
     go false h = omega (arith, h)
 
-pub rest_small : (n : ℕ) (us : List Op) (k : ℕ) (y : List Bool) (vs ws : List Value) → branches us ≤ 60 → IsColumn n (drop k us) y vs → ws ≡ vs → IsSmall ws
-rest_small n us k y vs ws few h e = subst IsSmall (sym e) (column_small n (drop k us) y vs (omega (arith, few, branches-drop us k)) h)
+pub rest_small : (n : ℕ) (us : List Op) (k : ℕ) (y : List Bool) (vs ws : List Value) → branches us ≤ 60 → IsColumn n (drop k us) y vs → ws ≡ vs → IsSmallColumn ws
+rest_small n us k y vs ws few h e = subst IsSmallColumn (sym e) (column_small n (drop k us) y vs (omega (arith, few, branches-drop us k)) h)
 
 -- the operation at k - 1 in front of those from k on
 pub one_more : (n : ℕ) (us : List Op) (k : ℕ) (d : Op) (y : List Bool) (vs : List Value) → 0 < k → k ≤ length us → IsColumn n (get_or us (k - 1) d ∷ drop k us) y vs → IsColumn n (drop (k - 1) us) y vs

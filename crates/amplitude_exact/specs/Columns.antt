@@ -6,7 +6,7 @@
 --     IsValue n us y i v      v is the amplitude of us from the bits of i to y, divided by 2 once for each of the others; each
 --                             part is at most 4^branches, so 60 branches stay within 2^120
 --     IsColumn n us y vs      value i of the column is that
---     IsSmall vs              each value of the column is within 2^120
+--     IsSmallColumn vs        each value of the column is within 2^120
 use Rattle.std.specs.Prelude.{◌≡◌, ℕ, zero, suc, ◌+◌, ◌^◌, ◌/◌, ◌%◌, ◌<◌, ◌==◌, ◌||◌, Bool, cond, List, [], ◌∷◌, pos, neg_ℤ, ◌≤ℤ◌, length, slice_index_or, if◌then◌else◌}
 use Rattle.unitary_model.specs.declared.Op.{Op}
 use Rattle.unitary_model.specs.declared.Op.TheVariants.{U, Cx}
@@ -49,5 +49,5 @@ pub record IsColumn (n : ℕ) (us : List Op) (y : List Bool) (vs : List Value) :
   pub long : length vs ≡ 2 ^ n
   pub each : (i : ℕ) (d : Value) → i < 2 ^ n → IsValue n us y i (ring_of (slice_index_or vs i d))
 
-abbrev pub IsSmall : List Value → Type 0
-IsSmall vs = (i : ℕ) (d : Value) → i < length vs → IsWithin (2 ^ 120) (ring_of (slice_index_or vs i d))
+abbrev pub IsSmallColumn : List Value → Type 0
+IsSmallColumn vs = (i : ℕ) (d : Value) → i < length vs → IsWithin (2 ^ 120) (ring_of (slice_index_or vs i d))

@@ -3,7 +3,7 @@
 ghost use Rattle.std.specs.Prelude.{◌≡◌, ℕ, ◌^◌, ◌<◌, ◌≤◌, Bool, List, [], ◌∷◌, length, replicate, IfOk};
 ghost use Rattle.unitary_model.specs.declared.Op.{Op as Operation};
 ghost use Rattle.amplitude_exact.specs.declared.values.Value.{Value as Entry};
-ghost use Rattle.amplitude_exact.specs.Columns.{IsColumn, IsValue, IsSmall};
+ghost use Rattle.amplitude_exact.specs.Columns.{IsColumn, IsValue, IsSmallColumn};
 ghost use Rattle.amplitude_exact.specs.Values.{ring_of};
 
 use crate::bits::{bit_at, flipped, number_of, power_of_two, with_bit};
@@ -47,7 +47,7 @@ fn value_at(op: Op, number: usize, wires: u32, column: &[Value]) -> Value
     requires wires_limit { wires ≤ 12 }
     requires below { number < 2 ^ wires }
     requires long { length column.now ≡ 2 ^ wires }
-    requires small { IsSmall column.now }
+    requires small { IsSmallColumn column.now }
     ensures { (us : List Operation) (to : List Bool) → IsColumn wires us to column.now → IsValue wires (op ∷ us) to number (ring_of result) }
 {
     match op {
@@ -72,7 +72,7 @@ pub(crate) fn write_column(op: Op, wires: u32, column: &[Value], next: &mut [Val
     requires wires_limit { wires ≤ 12 }
     requires long { length column.now ≡ 2 ^ wires }
     requires next_long { length next.old ≡ 2 ^ wires }
-    requires small { IsSmall column.now }
+    requires small { IsSmallColumn column.now }
     ensures new { (us : List Operation) (to : List Bool) → IsColumn wires us to column.now → IsColumn wires (op ∷ us) to next.new }
 {
     'numbers: for number in 0..next.len() {

@@ -12,7 +12,7 @@ use Rattle.std.specs.Int.RustNames.{int_div}
 use Rattle.std.proofs.Math.Nat.{pow-suc, pow-zero, pow-le-pow_right, div-one, lt_of_lt_of_le, one-le-pow, zero-lt-suc, zero-mul}
 use Rattle.std.proofs.Math.Numerals.{add-one}
 use Rattle.std.proofs.lemmas.Bool.{cases_eq}
-use Rattle.angle_fraction.specs.Fraction.{Fraction, IsLowest, IsSign, fraction, is_small, lowest, most_part, product, raised, unit}
+use Rattle.angle_fraction.specs.Fraction.{Fraction, IsLowest, IsSignNumber, fraction, is_small, lowest, most_part, product, raised, one_fraction}
 use Rattle.angle_fraction.specs.Angles.{fitted}
 use Rattle.angle_fraction.specs.declared.AngleFault.{AngleFault}
 use Rattle.angle_fraction.specs.declared.AngleFault.TheVariants.{Range}
@@ -111,10 +111,10 @@ power_past x i n e h le f = by_size (is_small (raised x i)) refl
         fitted-raised x n h ∙ ap (λ b. if b then Ok (raised x n) else Err Range) (too_large x i n le s) ∙ first
 
 -- ---- one factor more
-pub raised-zero : (x : Fraction) → IsLowest x → fitted (raised x 0) ≡ Ok unit
+pub raised-zero : (x : Fraction) → IsLowest x → fitted (raised x 0) ≡ Ok one_fraction
 unfolding is_small
 raised-zero x h =
-    let e : raised x 0 ≡ unit = λ i. fraction (int_pow-zero x.num i) (pow-zero x.den i) in
+    let e : raised x 0 ≡ one_fraction = λ i. fraction (int_pow-zero x.num i) (pow-zero x.den i) in
     fitted-raised x 0 h ∙ ap (λ z. if is_small z then Ok z else Err Range) e
 
 pub raised-more : (x power : Fraction) (n : ℕ) → IsLowest x → fitted (raised x n) ≡ Ok power
@@ -153,6 +153,6 @@ sign_num (pos (suc (suc m))) n h some = absurd (omega arith)
 sign_num (negsuc zero) n h some = rw (same_parity n, one-pow (2 - n % 2), one-pow n) refl
 sign_num (negsuc (suc m)) n h some = absurd (omega arith)
 
-pub sign_power : (x : Fraction) (n : ℕ) → IsSign x → 0 < n → raised x (2 - n % 2) ≡ raised x n
+pub sign_power : (x : Fraction) (n : ℕ) → IsSignNumber x → 0 < n → raised x (2 - n % 2) ≡ raised x n
 sign_power x n h some =
     λ i. fraction (sign_num x.num n h.num some i) (sign_den x.den h.den (2 - n % 2) n i)

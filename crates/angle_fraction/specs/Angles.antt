@@ -6,12 +6,12 @@
 --   is_nought, is_plain, is_whole   the value is 0; it has no part with pi; it is a plain whole number
 --   sum_of, difference_of, opposite_of, product_of, quotient_of, power_of   the answer of an operation
 --   power_by          an angle to a whole power, or its fault
---   is_turn a k       the angle is k pi/4 up to a multiple of 2 pi
+--   is_of_steps a k   the angle is k pi/4 up to a multiple of 2 pi
 --   first_where       the first of some numbers in a row that passes a test
 --   eighths_of        the k below 8 with which the angle is such a turn, where there is one
 use Rattle.std.specs.Prelude.{ℕ, zero, suc, ◌*◌, ◌==◌, ◌&&◌, Bool, ℤ, pos, negsuc, Result, Ok, Err, Option, Some, None, if◌then◌else◌, ◌*ℤ◌, ◌-ℤ◌, ◌+◌, ◌%◌}
 use Rattle.std.specs.Int.RustNames.{unsigned_abs}
-use Rattle.angle_fraction.specs.Fraction.{Fraction, difference, is_small, lowest, nought, opposite, power, product, quotient, sum, unit}
+use Rattle.angle_fraction.specs.Fraction.{Fraction, difference, is_small, lowest, zero_fraction, opposite, power, product, quotient, sum, one_fraction}
 use Rattle.angle_fraction.specs.declared.Angle.{Angle}
 use Rattle.angle_fraction.specs.declared.AngleFault.{AngleFault}
 use Rattle.angle_fraction.specs.declared.AngleFault.TheVariants.{Form, Range, ZeroDivisor}
@@ -28,7 +28,7 @@ both (Ok x) (Err e) = Err e
 both (Err e) y = Err e
 
 abbrev pub plainly : Result Fraction AngleFault → Result Angle AngleFault
-plainly (Ok x) = Ok (angle x nought)
+plainly (Ok x) = Ok (angle x zero_fraction)
 plainly (Err e) = Err e
 
 abbrev pub is_nought : Fraction → Bool
@@ -68,7 +68,7 @@ quotient_of a b =
 
 -- to a plain whole power
 abbrev pub power_by : Angle → ℤ → Result Angle AngleFault
-power_by a (pos zero) = Ok (angle unit nought)
+power_by a (pos zero) = Ok (angle one_fraction zero_fraction)
 power_by a (pos (suc zero)) = Ok a
 power_by a (pos (suc (suc n))) =
     if is_plain a then plainly (fitted (power a.plain (pos (suc (suc n))))) else Err Form
@@ -81,8 +81,8 @@ unfoldable pub power_of : Angle → Angle → Result Angle AngleFault
 power_of a b = if is_whole b then power_by a b.plain.num else Err Form
 
 -- pis - k/4 is a multiple of 2, and there is no plain part
-abbrev pub is_turn : Angle → ℕ → Bool
-is_turn a k =
+abbrev pub is_of_steps : Angle → ℕ → Bool
+is_of_steps a k =
     is_nought a.plain && (unsigned_abs (pos 4 *ℤ a.pis.num -ℤ pos (k * a.pis.den)) % (8 * a.pis.den) == 0)
 
 -- the first of so many numbers, from one on, at which a test holds
@@ -91,4 +91,4 @@ first_where p from zero = None
 first_where p from (suc n) = if p from then Some from else first_where p (from + 1) n
 
 unfoldable pub eighths_of : Angle → Option ℕ
-eighths_of a = first_where (is_turn a) 0 8
+eighths_of a = first_where (is_of_steps a) 0 8

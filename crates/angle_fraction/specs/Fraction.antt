@@ -1,11 +1,11 @@
 -- Exact fractions of whole numbers of any size.
 --   Fraction          a numerator and a denominator; a value has a denominator above 0
 --   fraction n d      the fraction with these parts
---   nought, unit      0 and 1
+--   zero_fraction, one_fraction  0 and 1
 --   sum, difference, opposite, product, quotient, power   the arithmetic of fractions; a quotient asks for a divisor that isn't 0
 --   over_by, inverse_of   1 over a fraction, of which the parts are given, or the fraction itself; the numerator takes the sign
 --   raised x n        x to a power that isn't negative
---   IsSign            0, 1 or -1
+--   IsSignNumber      0, 1 or -1
 --   greatest_common   the greatest number up to a bound that divides two numbers
 --   common_factor     the greatest common divisor of a fraction's parts
 --   lowest            the same value in lowest terms
@@ -26,11 +26,11 @@ pub record Fraction : Type 0 where
 abbrev pub fraction : ℤ → ℕ → Fraction
 fraction n d = record { num = n; den = d }
 
-abbrev pub nought : Fraction
-nought = fraction (pos 0) 1
+abbrev pub zero_fraction : Fraction
+zero_fraction = fraction (pos 0) 1
 
-abbrev pub unit : Fraction
-unit = fraction (pos 1) 1
+abbrev pub one_fraction : Fraction
+one_fraction = fraction (pos 1) 1
 
 -- ---- arithmetic
 abbrev pub sum : Fraction → Fraction → Fraction
@@ -64,7 +64,7 @@ power x (pos n) = raised x n
 power x (negsuc n) = raised (inverse_of x) (suc n)
 
 -- in lowest terms, a fraction whose powers are as small
-pub record IsSign (x : Fraction) : Type 0 where
+pub record IsSignNumber (x : Fraction) : Type 0 where
   pub num : unsigned_abs x.num ≤ 1
   pub den : x.den ≡ 1
 

@@ -3,7 +3,7 @@
 ghost use Rattle.std.specs.Prelude.{false, ◌≡◌, ◌+◌, ◌*◌, ◌<◌, ◌≤◌, ◌^◌, ◌↔◌, ℤ, pos, ◌<ℤ◌, ◌*ℤ◌, neg_ℤ, IsTrue, unsigned_abs};
 ghost use Rattle.std.specs.Int.{IsGcd};
 ghost use Rattle.std.specs.Int.RustNames.{int_div};
-ghost use Rattle.angle_fraction.specs.Fraction.{IsSmallFraction, IsLowest, IsSign, difference, fraction, inverse_of, most_part, nought, opposite, power, product, quotient, raised, sum, unit};
+ghost use Rattle.angle_fraction.specs.Fraction.{IsSmallFraction, IsLowest, IsSignNumber, difference, fraction, inverse_of, most_part, zero_fraction, opposite, power, product, quotient, raised, sum, one_fraction};
 ghost use Rattle.angle_fraction.specs.Angles.{fitted, is_nought};
 
 use crate::AngleFault;
@@ -43,14 +43,14 @@ impl Model for Frac {
 impl Frac {
     /// 0.
     pub fn nought() -> Frac
-        ensures value { result ≡ nought }
+        ensures value { result ≡ zero_fraction }
     {
         Frac { num: 0, den: 1 }
     }
 
     /// 1.
     pub fn unit() -> Frac
-        ensures value { result ≡ unit }
+        ensures value { result ≡ one_fraction }
     {
         Frac { num: 1, den: 1 }
     }
@@ -264,7 +264,7 @@ pub fn quotient(a: &Frac, b: &Frac) -> Result<Frac, AngleFault>
 
 /// Whether every power of the fraction is 0, 1 or -1.
 fn is_sign(a: &Frac) -> bool
-    ensures sign { IsTrue result ↔ IsSign a.now }
+    ensures sign { IsTrue result ↔ IsSignNumber a.now }
     ensures lowest { IsLowest a.now }
 {
     a.den() == 1 && a.num().unsigned_abs() <= 1

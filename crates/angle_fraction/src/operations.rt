@@ -2,7 +2,7 @@
 
 ghost use Rattle.std.specs.Prelude.{IfSome, ◌≡◌, ◌-◌, ◌*◌, ◌<◌, ◌≤◌, ℤ, unsigned_abs, ◌*ℤ◌, ◌-ℤ◌, pos};
 ghost use Rattle.angle_fraction.specs.Fraction.{most_part};
-ghost use Rattle.angle_fraction.specs.Angles.{difference_of, eighths_of, is_nought, is_plain, is_turn, is_whole, opposite_of, plainly, power_by, power_of, product_of, quotient_of, sum_of};
+ghost use Rattle.angle_fraction.specs.Angles.{difference_of, eighths_of, is_nought, is_plain, is_of_steps, is_whole, opposite_of, plainly, power_by, power_of, product_of, quotient_of, sum_of};
 
 use crate::frac::{Frac, difference, inverse, opposite, product, quotient, raised, sum, times};
 use crate::{Angle, AngleFault};
@@ -153,7 +153,7 @@ fn away(a: &Frac, k: u8) -> i128
 /// Whether the angle has no plain part and is k pi/4 up to a multiple of 2 pi.
 fn is_turn(a: &Angle, k: u8) -> bool
     requires { k < 8 }
-    ensures { result ≡ is_turn a.now k }
+    ensures { result ≡ is_of_steps a.now k }
 {
     let turn = 8 * a.pis.den().unsigned_abs();
     a.plain.is_nought() && away(&a.pis, k).unsigned_abs() % turn == 0

@@ -17,7 +17,7 @@ use Rattle.unitary_model.specs.declared.Op.TheVariants.{U, Cx}
 use Rattle.gate_expand.specs.Expansion.{IsFineOp}
 use Rattle.bench_program.specs.Draws.{draws, next, draw}
 use Rattle.bench_program.specs.Program.{program, drawn, makes_cx, target, one_qubit}
-use Rattle.bench_program.specs.Walked.{walked, op_at, after}
+use Rattle.bench_program.specs.Walked.{drawn_from, op_at, state_behind}
 
 -- ---- the draws as states
 
@@ -27,14 +27,14 @@ chosen true u v us vs s t f p q = ap (λ l. u ∷ l) p
 chosen false u v us vs s t f p q = ap (λ l. v ∷ l) q
 
 program-step : (size n x m : ℕ)
-    → program size n (draws (next (next (next x))) m) ≡ walked size n (next (next (next x)))
-    → program size n (draws (next (next x)) (suc m)) ≡ walked size n (next (next x))
-    → program size (suc n) (draws x (suc (suc (suc m)))) ≡ walked size (suc n) x
-unfolding op_at after
+    → program size n (draws (next (next (next x))) m) ≡ drawn_from size n (next (next (next x)))
+    → program size n (draws (next (next x)) (suc m)) ≡ drawn_from size n (next (next x))
+    → program size (suc n) (draws x (suc (suc (suc m)))) ≡ drawn_from size (suc n) x
+unfolding op_at state_behind
 program-step size n x m three two =
-    chosen (makes_cx size (draw x % 8)) _ _ _ _ (next (next (next x))) (next (next x)) (λ y. walked size n y) three two
+    chosen (makes_cx size (draw x % 8)) _ _ _ _ (next (next (next x))) (next (next x)) (λ y. drawn_from size n y) three two
 
-pub program-walked : (size n x m : ℕ) → 3 * n ≤ m → program size n (draws x m) ≡ walked size n x
+pub program-walked : (size n x m : ℕ) → 3 * n ≤ m → program size n (draws x m) ≡ drawn_from size n x
 program-walked size zero x m le = refl
 program-walked size (suc n) x zero le = absurd (omega (arith, le))
 program-walked size (suc n) x (suc zero) le = absurd (omega (arith, le))
@@ -43,14 +43,14 @@ program-walked size (suc n) x (suc (suc (suc m))) le = program-step size n x m
     (program-walked size n (next (next (next x))) m (omega (arith, le)))
     (program-walked size n (next (next x)) (suc m) (omega (arith, le)))
 
-pub drawn-walked : (start n size : ℕ) → drawn start n size ≡ walked size n start
+pub drawn-walked : (start n size : ℕ) → drawn start n size ≡ drawn_from size n start
 drawn-walked start n size = program-walked size n start (3 * n) (omega arith)
 
 -- ---- how many they are, and that they are fine
 
-pub length-walked : (size n x : ℕ) → length (walked size n x) ≡ n
+pub length-walked : (size n x : ℕ) → length (drawn_from size n x) ≡ n
 length-walked size zero x = refl
-length-walked size (suc n) x = ap (λ k. suc k) (length-walked size n (after size x))
+length-walked size (suc n) x = ap (λ k. suc k) (length-walked size n (state_behind size x))
 
 one_qubit-fine : (size kind q : ℕ) → q < size → IsFineOp size (one_qubit kind q)
 one_qubit-fine size kind q within = go (kind == 1) (kind == 2) (kind == 3) (kind == 4)
@@ -105,28 +105,28 @@ op_at-fine size x some = go (makes_cx size (draw x % 8)) refl
     go true e = cx-fine size (draw (next x) % size) (draw (next (next x))) within (ltb-true 1 size (and_parts _ _ e).1)
     go false e = one_qubit-fine size (draw x % 8) (draw (next x) % size) within
 
-each-fine : (size n x : ℕ) → 0 < size → AllByRecursion (IsFineOp size) (walked size n x)
+each-fine : (size n x : ℕ) → 0 < size → AllByRecursion (IsFineOp size) (drawn_from size n x)
 each-fine size zero x some = tt
-each-fine size (suc n) x some = (op_at-fine size x some, each-fine size n (after size x) some)
+each-fine size (suc n) x some = (op_at-fine size x some, each-fine size n (state_behind size x) some)
 
-pub All-walked : (size n x : ℕ) → 0 < size → All (IsFineOp size) (walked size n x)
-All-walked size n x some = All-from_recursion (IsFineOp size) (walked size n x) (each-fine size n x some)
+pub All-walked : (size n x : ℕ) → 0 < size → All (IsFineOp size) (drawn_from size n x)
+All-walked size n x some = All-from_recursion (IsFineOp size) (drawn_from size n x) (each-fine size n x some)
 
 -- ---- the loop
 
-walked-first : (size n k x : ℕ) → n ≡ suc k → walked size n x ≡ op_at size x ∷ walked size k (after size x)
-walked-first size n k x e = ap (λ m. walked size m x) e
+walked-first : (size n k x : ℕ) → n ≡ suc k → drawn_from size n x ≡ op_at size x ∷ drawn_from size k (state_behind size x)
+walked-first size n k x e = ap (λ m. drawn_from size m x) e
 
-pub walked-more : (size n i x y : ℕ) (us : List Op) (u : Op) → i < n → u ≡ op_at size x → y ≡ after size x
-    → us ++ u ∷ [] ++ walked size (n - (i + 1)) y ≡ us ++ walked size (n - i) x
+pub walked-more : (size n i x y : ℕ) (us : List Op) (u : Op) → i < n → u ≡ op_at size x → y ≡ state_behind size x
+    → us ++ u ∷ [] ++ drawn_from size (n - (i + 1)) y ≡ us ++ drawn_from size (n - i) x
 walked-more size n i x y us u before op state =
     let one : n - i ≡ suc (n - (i + 1)) = omega (arith, before) in
-    append_assoc us (u ∷ []) (walked size (n - (i + 1)) y)
-    ∙ ap (λ v. us ++ (v ∷ walked size (n - (i + 1)) y)) op
-    ∙ ap (λ s. us ++ (op_at size x ∷ walked size (n - (i + 1)) s)) state
+    append_assoc us (u ∷ []) (drawn_from size (n - (i + 1)) y)
+    ∙ ap (λ v. us ++ (v ∷ drawn_from size (n - (i + 1)) y)) op
+    ∙ ap (λ s. us ++ (op_at size x ∷ drawn_from size (n - (i + 1)) s)) state
     ∙ ap (λ l. us ++ l) (sym (walked-first size (n - i) (n - (i + 1)) x one))
 
-pub walked-done : (size n i x : ℕ) (us ws : List Op) → n ≤ i → us ++ walked size (n - i) x ≡ ws → us ≡ ws
+pub walked-done : (size n i x : ℕ) (us ws : List Op) → n ≤ i → us ++ drawn_from size (n - i) x ≡ ws → us ≡ ws
 walked-done size n i x us ws end e =
     let none : 0 ≡ n - i = omega (arith, end) in
-    sym (append-nil us) ∙ ap (λ m. us ++ walked size m x) none ∙ e
+    sym (append-nil us) ∙ ap (λ m. us ++ drawn_from size m x) none ∙ e

@@ -4,7 +4,7 @@ ghost use Rattle.std.specs.Prelude.{◌≡◌, ◌<◌, ◌≤◌, [], IfOk, All
 ghost use Rattle.unitary_model.specs.Limits.{most_qubits};
 ghost use Rattle.gate_expand.specs.Expansion.{IsFineOp};
 ghost use Rattle.bench_program.specs.Program.{drawn, makes_cx, most_gates, one_qubit};
-ghost use Rattle.bench_program.specs.Walked.{after, op_at};
+ghost use Rattle.bench_program.specs.Walked.{state_behind, op_at};
 
 use crate::draws::Draws;
 use gate_expand::{OpList, Ops, ReadList};
@@ -44,7 +44,7 @@ fn next_op(draws: &mut Draws, size: u32) -> Op
     requires some { 0 < size }
     requires wires_limit { size ≤ most_qubits }
     ensures op { result ≡ op_at size draws.old.state }
-    ensures state { draws.new.state ≡ after size draws.old.state }
+    ensures state { draws.new.state ≡ state_behind size draws.old.state }
 {
     let kind = draws.draw() % 8;
     let wire = draws.draw() % size;

@@ -12,8 +12,8 @@ use Rattle.std.proofs.lemmas.Bool.Decides.{nat_tests}
 use Rattle.circuit_list.specs.declared.Gate.{Gate}
 use Rattle.circuit_list.specs.declared.Gate.TheVariants.{H, X, P, Cx}
 use Rattle.circuit_list.specs.Gates.{first_wire, is_on}
-use Rattle.circuit_layers.specs.Layers.{LayerBody, Levels, level_of, next_level, raised, inserted, with_gate, no_gates, at_layer, walked_all, layers_of}
-use Rattle.circuit_layers.specs.Walk.{Wires, free, with_wires, is_stopped, taken, left, is_first, first_wires, later, ascending, layer, rest, turns, rest_after, walk_layers}
+use Rattle.circuit_layers.specs.Layers.{LayerBody, Levels, level_of, next_level, raised_levels, inserted, layer_with, no_gates, at_layer, layer_walked_all, layers_of}
+use Rattle.circuit_layers.specs.Walk.{WireSet, free, with_wires, is_stopped, layer_taken, layer_left, is_first, first_wires, later, ascending, layer, rest_of_round, rounds, rest_after, walk_layers}
 
 -- ---- wires among wires
 pushed : (b : Bool) (p : ℕ) (A B : List ℕ) → inserted p (cond b A B) ≡ cond b (inserted p A) (inserted p B)
@@ -84,27 +84,27 @@ free_level b m n e h = subst (λ x. Lower x m n) e h
 lower_free : (b : Bool) (m n : ℕ) → b ≡ false → m ≡ 0 → n ≡ 0 → Lower b m n
 lower_free b m n e f g = subst (λ x. Lower x m n) (sym e) (f, g)
 
-abbrev AreLower : Wires → Levels → Levels → Type 0
+abbrev AreLower : WireSet → Levels → Levels → Type 0
 AreLower b v u = (w : ℕ) → Lower (b w) (v w) (u w)
 
 abbrev layers_by : List Gate → Levels → List LayerBody → List LayerBody
-layers_by gs v ls = (walked_all gs (record { levels = v; layers = ls })).layers
+layers_by gs v ls = (layer_walked_all gs (record { levels = v; layers = ls })).layers
 
-abbrev grown : Wires → List Gate → LayerBody → LayerBody
-grown b gs l = record { gates = l.gates ++ taken b gs; hadamards = onto l.hadamards (first_wires b (left b gs)) }
+abbrev grown : WireSet → List Gate → LayerBody → LayerBody
+grown b gs l = record { gates = l.gates ++ layer_taken b gs; hadamards = onto l.hadamards (first_wires b (layer_left b gs)) }
 
 abbrev Splits : List Gate → Type 0
-Splits gs = (b : Wires) (v u : Levels) (l : LayerBody) (ls : List LayerBody) → AreLower b v u →
-    layers_by gs v (l ∷ ls) ≡ grown b gs l ∷ layers_by (later b (left b gs)) u ls
+Splits gs = (b : WireSet) (v u : Levels) (l : LayerBody) (ls : List LayerBody) → AreLower b v u →
+    layers_by gs v (l ∷ ls) ≡ grown b gs l ∷ layers_by (later b (layer_left b gs)) u ls
 
 -- a gate that the turn leaves
-left_gate : (g : Gate) (gs : List Gate) → Splits gs → (b : Wires) (v u : Levels) (l : LayerBody) (ls : List LayerBody) → AreLower b v u →
+left_gate : (g : Gate) (gs : List Gate) → Splits gs → (b : WireSet) (v u : Levels) (l : LayerBody) (ls : List LayerBody) → AreLower b v u →
     level_of v g ≡ suc (level_of u g) → next_level v g ≡ suc (next_level u g) →
-    layers_by gs (raised v g) (at_layer (level_of v g) (with_gate g) (l ∷ ls))
-    ≡ grown (with_wires b g) gs l ∷ layers_by (later (with_wires b g) (left (with_wires b g) gs)) (raised u g) (at_layer (level_of u g) (with_gate g) ls)
+    layers_by gs (raised_levels v g) (at_layer (level_of v g) (layer_with g) (l ∷ ls))
+    ≡ grown (with_wires b g) gs l ∷ layers_by (later (with_wires b g) (layer_left (with_wires b g) gs)) (raised_levels u g) (at_layer (level_of u g) (layer_with g) ls)
 left_gate g gs claim b v u l ls h e n =
-    ap (λ k. layers_by gs (raised v g) (at_layer k (with_gate g) (l ∷ ls))) e
-    ∙ claim (with_wires b g) (raised v g) (raised u g) l (at_layer (level_of u g) (with_gate g) ls) (λ w. go w (is_on w g))
+    ap (λ k. layers_by gs (raised_levels v g) (at_layer k (layer_with g) (l ∷ ls))) e
+    ∙ claim (with_wires b g) (raised_levels v g) (raised_levels u g) l (at_layer (level_of u g) (layer_with g) ls) (λ w. go w (is_on w g))
   where
     go : (w : ℕ) (x : Bool) → Lower (x || b w) (cond x (next_level v g) (v w)) (cond x (next_level u g) (u w))
     go w true = n
@@ -114,19 +114,19 @@ same_number : (w q : ℕ) → nat_eq w q ≡ true → w ≡ q
 same_number w q e = grind (arith, nat_tests)
 
 -- an H
-hadamard_gate : (q : ℕ) (gs : List Gate) → Splits gs → (b : Wires) (v u : Levels) (l : LayerBody) (ls : List LayerBody) → AreLower b v u → (x : Bool) → b q ≡ x →
-    let c : Wires = with_wires b (H q) in
-    layers_by gs (raised v (H q)) (at_layer (v q) (with_gate (H q)) (l ∷ ls))
-    ≡ record { gates = l.gates ++ taken c gs; hadamards = onto l.hadamards (cond (not x) (q ∷ first_wires c (left c gs)) (first_wires c (left c gs))) }
-    ∷ layers_by (cond (not x) (later c (left c gs)) (H q ∷ later c (left c gs))) u ls
+hadamard_gate : (q : ℕ) (gs : List Gate) → Splits gs → (b : WireSet) (v u : Levels) (l : LayerBody) (ls : List LayerBody) → AreLower b v u → (x : Bool) → b q ≡ x →
+    let c : WireSet = with_wires b (H q) in
+    layers_by gs (raised_levels v (H q)) (at_layer (v q) (layer_with (H q)) (l ∷ ls))
+    ≡ record { gates = l.gates ++ layer_taken c gs; hadamards = onto l.hadamards (cond (not x) (q ∷ first_wires c (layer_left c gs)) (first_wires c (layer_left c gs))) }
+    ∷ layers_by (cond (not x) (later c (layer_left c gs)) (H q ∷ later c (layer_left c gs))) u ls
 hadamard_gate q gs claim b v u l ls h true d =
     let e = blocked_level (b q) (v q) (u q) d (h q) in left_gate (H q) gs claim b v u l ls h e (ap suc e)
 hadamard_gate q gs claim b v u l ls h false d =
-    ap (λ k. layers_by gs (raised v (H q)) (at_layer k (with_gate (H q)) (l ∷ ls))) none.0
-    ∙ claim c (raised v (H q)) u (with_gate (H q) l) ls (λ w. go w (nat_eq w q) refl)
-    ∙ ap (λ z. record { gates = l.gates ++ taken c gs; hadamards = z } ∷ layers_by (later c (left c gs)) u ls) (onto_inserted q l.hadamards (first_wires c (left c gs)))
+    ap (λ k. layers_by gs (raised_levels v (H q)) (at_layer k (layer_with (H q)) (l ∷ ls))) none.0
+    ∙ claim c (raised_levels v (H q)) u (layer_with (H q) l) ls (λ w. go w (nat_eq w q) refl)
+    ∙ ap (λ z. record { gates = l.gates ++ layer_taken c gs; hadamards = z } ∷ layers_by (later c (layer_left c gs)) u ls) (onto_inserted q l.hadamards (first_wires c (layer_left c gs)))
   where
-    c : Wires
+    c : WireSet
     c = with_wires b (H q)
 
     none : (v q ≡ 0) × (u q ≡ 0)
@@ -140,35 +140,35 @@ hadamard_gate q gs claim b v u l ls h false d =
 abbrev adding : Gate → LayerBody → LayerBody
 adding g l = record l { gates = l.gates ++ g ∷ [] }
 
-plain_gate : (g : Gate) (gs : List Gate) → Splits gs → (b : Wires) (v u : Levels) (l : LayerBody) (ls : List LayerBody) → AreLower b v u → (x : Bool) →
-    is_first b g ≡ false → with_gate g l ≡ adding g l →
+plain_gate : (g : Gate) (gs : List Gate) → Splits gs → (b : WireSet) (v u : Levels) (l : LayerBody) (ls : List LayerBody) → AreLower b v u → (x : Bool) →
+    is_first b g ≡ false → layer_with g l ≡ adding g l →
     (x ≡ true → (level_of v g ≡ suc (level_of u g)) × (next_level v g ≡ suc (next_level u g))) →
     (x ≡ false → (level_of v g ≡ 0) × ((w : ℕ) → is_on w g ≡ true → Lower (b w) (next_level v g) (u w))) →
-    let left_here : List Gate = cond x (g ∷ left (with_wires b g) gs) (left b gs) in
-    layers_by gs (raised v g) (at_layer (level_of v g) (with_gate g) (l ∷ ls))
-    ≡ record { gates = l.gates ++ cond x (taken (with_wires b g) gs) (g ∷ taken b gs); hadamards = onto l.hadamards (first_wires b left_here) } ∷ layers_by (later b left_here) u ls
+    let left_here : List Gate = cond x (g ∷ layer_left (with_wires b g) gs) (layer_left b gs) in
+    layers_by gs (raised_levels v g) (at_layer (level_of v g) (layer_with g) (l ∷ ls))
+    ≡ record { gates = l.gates ++ cond x (layer_taken (with_wires b g) gs) (g ∷ layer_taken b gs); hadamards = onto l.hadamards (first_wires b left_here) } ∷ layers_by (later b left_here) u ls
 plain_gate g gs claim b v u l ls h true f a blocked unblocked = let e = blocked refl in
     left_gate g gs claim b v u l ls h e.0 e.1
-    ∙ (λ i. record { gates = l.gates ++ taken c gs; hadamards = onto l.hadamards (cond (sym f i) (first_wire g ∷ first_wires c (left c gs)) (first_wires c (left c gs))) }
-    ∷ layers_by (cond (sym f i) (later c (left c gs)) (g ∷ later c (left c gs))) u ls)
+    ∙ (λ i. record { gates = l.gates ++ layer_taken c gs; hadamards = onto l.hadamards (cond (sym f i) (first_wire g ∷ first_wires c (layer_left c gs)) (first_wires c (layer_left c gs))) }
+    ∷ layers_by (cond (sym f i) (later c (layer_left c gs)) (g ∷ later c (layer_left c gs))) u ls)
   where
-    c : Wires
+    c : WireSet
     c = with_wires b g
 plain_gate g gs claim b v u l ls h false f a blocked unblocked =
-    ap (λ k. layers_by gs (raised v g) (at_layer k (with_gate g) (l ∷ ls))) (unblocked refl).0
-    ∙ ap (λ m. layers_by gs (raised v g) (m ∷ ls)) a
-    ∙ claim b (raised v g) u (adding g l) ls (λ w. go w (is_on w g) refl)
-    ∙ ap (λ z. record { gates = z; hadamards = onto l.hadamards (first_wires b (left b gs)) } ∷ layers_by (later b (left b gs)) u ls) (append_assoc l.gates (g ∷ []) (taken b gs))
+    ap (λ k. layers_by gs (raised_levels v g) (at_layer k (layer_with g) (l ∷ ls))) (unblocked refl).0
+    ∙ ap (λ m. layers_by gs (raised_levels v g) (m ∷ ls)) a
+    ∙ claim b (raised_levels v g) u (adding g l) ls (λ w. go w (is_on w g) refl)
+    ∙ ap (λ z. record { gates = z; hadamards = onto l.hadamards (first_wires b (layer_left b gs)) } ∷ layers_by (later b (layer_left b gs)) u ls) (append_assoc l.gates (g ∷ []) (layer_taken b gs))
   where
     go : (w : ℕ) (x : Bool) → is_on w g ≡ x → Lower (b w) (cond x (next_level v g) (v w)) (u w)
     go w true e = (unblocked refl).1 w e
     go w false e = h w
 
 -- what holds of a wire, and of two
-one_blocked : (b : Wires) (v u : Levels) (q : ℕ) → AreLower b v u → b q ≡ true → (v q ≡ suc (u q)) × (v q ≡ suc (u q))
+one_blocked : (b : WireSet) (v u : Levels) (q : ℕ) → AreLower b v u → b q ≡ true → (v q ≡ suc (u q)) × (v q ≡ suc (u q))
 one_blocked b v u q h e = (blocked_level (b q) (v q) (u q) e (h q), blocked_level (b q) (v q) (u q) e (h q))
 
-one_free : (b : Wires) (v u : Levels) (q : ℕ) → AreLower b v u → b q ≡ false → (v q ≡ 0) × ((w : ℕ) → nat_eq w q ≡ true → Lower (b w) (v q) (u w))
+one_free : (b : WireSet) (v u : Levels) (q : ℕ) → AreLower b v u → b q ≡ false → (v q ≡ 0) × ((w : ℕ) → nat_eq w q ≡ true → Lower (b w) (v q) (u w))
 one_free b v u q h e = ((free_level (b q) (v q) (u q) e (h q)).0, λ w d. subst (λ p. Lower (b p) (v q) (u p)) (sym (same_number w q d)) (h q))
 
 two_blocked : (x y : Bool) (m n j k : ℕ) → Lower x m j → Lower y n k → x || y ≡ true → max m n ≡ suc (max j k)
@@ -184,7 +184,7 @@ both_free false y e = (refl, e)
 max_none : (m n : ℕ) → m ≡ 0 → n ≡ 0 → max m n ≡ 0
 max_none m n d e = omega arith
 
-two_free : (b : Wires) (v u : Levels) (c t : ℕ) → AreLower b v u → b c || b t ≡ false →
+two_free : (b : WireSet) (v u : Levels) (c t : ℕ) → AreLower b v u → b c || b t ≡ false →
     (max (v c) (v t) ≡ 0) × ((w : ℕ) → is_on w (Cx c t) ≡ true → Lower (b w) (max (v c) (v t)) (u w))
 two_free b v u c t h e = (nought, λ w d. go w (nat_eq w c) refl d)
   where
@@ -218,22 +218,22 @@ first_layer : (k : ℕ) (f : LayerBody → LayerBody) → at_layer k f [] ≡ at
 first_layer zero f = refl
 first_layer (suc k) f = refl
 
-turn_taken : (g : Gate) (gs : List Gate) → layers_of (g ∷ gs) ≡ layer (g ∷ gs) ∷ layers_of (rest (g ∷ gs))
+turn_taken : (g : Gate) (gs : List Gate) → layers_of (g ∷ gs) ≡ layer (g ∷ gs) ∷ layers_of (rest_of_round (g ∷ gs))
 turn_taken g gs =
-    ap (layers_by gs (raised (λ w. 0) g)) (first_layer (level_of (λ w. 0) g) (with_gate g))
+    ap (layers_by gs (raised_levels (λ w. 0) g)) (first_layer (level_of (λ w. 0) g) (layer_with g))
     ∙ one_turn (g ∷ gs) free (λ w. 0) (λ w. 0) no_gates [] (λ w. (refl, refl))
-    ∙ ap (λ z. record { gates = taken free (g ∷ gs); hadamards = z } ∷ layers_of (rest (g ∷ gs))) (onto_none (first_wires free (left free (g ∷ gs))))
+    ∙ ap (λ z. record { gates = layer_taken free (g ∷ gs); hadamards = z } ∷ layers_of (rest_of_round (g ∷ gs))) (onto_none (first_wires free (layer_left free (g ∷ gs))))
 
 -- ---- what a turn leaves is shorter
-left_length : (b : Wires) (gs : List Gate) → length (left b gs) ≤ length gs
+left_length : (b : WireSet) (gs : List Gate) → length (layer_left b gs) ≤ length gs
 left_length b [] = omega arith
 left_length b (g ∷ gs) = go (is_stopped b g) (left_length (with_wires b g) gs) (left_length b gs)
   where
-    go : (x : Bool) → length (left (with_wires b g) gs) ≤ length gs → length (left b gs) ≤ length gs → length (cond x (g ∷ left (with_wires b g) gs) (left b gs)) ≤ suc (length gs)
+    go : (x : Bool) → length (layer_left (with_wires b g) gs) ≤ length gs → length (layer_left b gs) ≤ length gs → length (cond x (g ∷ layer_left (with_wires b g) gs) (layer_left b gs)) ≤ suc (length gs)
     go true d e = omega arith
     go false d e = omega arith
 
-later_length : (b : Wires) (gs : List Gate) → length (later b gs) ≤ length gs
+later_length : (b : WireSet) (gs : List Gate) → length (later b gs) ≤ length gs
 later_length b [] = omega arith
 later_length b (g ∷ gs) = go (is_first b g) (later_length (with_wires b g) gs)
   where
@@ -241,28 +241,28 @@ later_length b (g ∷ gs) = go (is_first b g) (later_length (with_wires b g) gs)
     go true d = omega arith
     go false d = omega arith
 
-both_lengths : (b : Wires) (gs : List Gate) → length (later b (left b gs)) ≤ length gs
-both_lengths b gs = let d = later_length b (left b gs) in let e = left_length b gs in omega (arith, d, e)
+both_lengths : (b : WireSet) (gs : List Gate) → length (later b (layer_left b gs)) ≤ length gs
+both_lengths b gs = let d = later_length b (layer_left b gs) in let e = left_length b gs in omega (arith, d, e)
 
-shorter : (g : Gate) (gs : List Gate) → length (rest (g ∷ gs)) ≤ length gs
+shorter : (g : Gate) (gs : List Gate) → length (rest_of_round (g ∷ gs)) ≤ length gs
 shorter (H q) gs = both_lengths (with_wires free (H q)) gs
 shorter (X q) gs = both_lengths free gs
 shorter (P k q) gs = both_lengths free gs
 shorter (Cx c t) gs = both_lengths free gs
 
 -- ---- the law
-as_turns : (k : ℕ) (gs : List Gate) → length gs ≤ k → layers_of gs ≡ turns k gs
+as_turns : (k : ℕ) (gs : List Gate) → length gs ≤ k → layers_of gs ≡ rounds k gs
 as_turns zero [] le = refl
 as_turns (suc k) [] le = refl
 as_turns zero (g ∷ gs) le = absurd (omega arith)
 as_turns (suc k) (g ∷ gs) le = let s = shorter g gs in
-    turn_taken g gs ∙ ap (λ z. layer (g ∷ gs) ∷ z) (as_turns k (rest (g ∷ gs)) (omega (arith, s)))
+    turn_taken g gs ∙ ap (λ z. layer (g ∷ gs) ∷ z) (as_turns k (rest_of_round (g ∷ gs)) (omega (arith, s)))
 
 ended : (k : ℕ) (gs : List Gate) → length gs ≤ k → rest_after k gs ≡ []
 ended zero [] le = refl
 ended (suc k) [] le = ended k [] (omega arith)
 ended zero (g ∷ gs) le = absurd (omega arith)
-ended (suc k) (g ∷ gs) le = let s = shorter g gs in ended k (rest (g ∷ gs)) (omega (arith, s))
+ended (suc k) (g ∷ gs) le = let s = shorter g gs in ended k (rest_of_round (g ∷ gs)) (omega (arith, s))
 
 pub same_layers : (gs : List Gate) → layers_of gs ≡ walk_layers gs
 same_layers gs = as_turns (length gs) gs (omega arith)

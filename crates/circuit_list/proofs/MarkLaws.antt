@@ -20,7 +20,7 @@ use Rattle.circuit_list.specs.declared.Gate.{Gate}
 use Rattle.circuit_list.specs.declared.Gate.TheVariants.{H, X, P, Cx}
 use Rattle.circuit_list.specs.Entries.{entry}
 use Rattle.circuit_list.specs.Marks.{IsFirstMarked, IsLastMarked, IsMarked, IsMarkedTo, NoneMarked, is_marked, word_of}
-use Rattle.circuit_list.specs.Tree.{IsFirstOn, IsLastOn, has_any, meets, wire_bit, wires_of}
+use Rattle.circuit_list.specs.Tree.{IsFirstSlotOn, IsLastOn, has_any, meets, wire_bit, gate_wires}
 use Rattle.circuit_list.proofs.EntryLaws.{entry-past, entry-push, entry-pushed}
 use Rattle.circuit_list.proofs.TreeLaws.{has_any-bit, has_any-none, has_any-or, order, same_or_not}
 
@@ -171,11 +171,11 @@ meets_bit w v = has_any-bit (2 ^ (v % 64)) (w % 64) ∙ at (same_or_not (w % 64)
     at (inr n) = ap (λ k. k == 1) (bit_at-pow_other (v % 64) (w % 64) n) ∙ sym (ne_eqb (w % 64) (v % 64) n)
 
 pub meets-one : (w q : ℕ) → meets (wire_bit w) (Some (H q)) ≡ (w % 64 == q % 64)
-unfolding wires_of
+unfolding gate_wires
 meets-one w q = meets_bit w q
 
 pub meets-two : (w c t : ℕ) → meets (wire_bit w) (Some (Cx c t)) ≡ ((w % 64 == c % 64) || (w % 64 == t % 64))
-unfolding wires_of
+unfolding gate_wires
 meets-two w c t = has_any-or (wire_bit w) (wire_bit c) (wire_bit t) ∙ (λ i. meets_bit w c i || meets_bit w t i)
 
 cond-twice : (p q r on x : Bool) → cond (p && r) on (cond (p && q) on x) ≡ cond (p && (q || r)) on x
@@ -185,11 +185,11 @@ cond-twice true false true on x = refl
 cond-twice true false false on x = refl
 cond-twice false q r on x = refl
 
-wires_of_one : (q : ℕ) (g : Gate) → (g ≡ H q) ⊎ (g ≡ X q) ⊎ ((k : ℕ) × (g ≡ P k q)) → wires_of (H q) ≡ wires_of g
-unfolding wires_of
-wires_of_one q g (inl h) = ap wires_of (sym h)
-wires_of_one q g (inr (inl h)) = ap wires_of (sym h)
-wires_of_one q g (inr (inr h)) = ap wires_of (sym h.1)
+wires_of_one : (q : ℕ) (g : Gate) → (g ≡ H q) ⊎ (g ≡ X q) ⊎ ((k : ℕ) × (g ≡ P k q)) → gate_wires (H q) ≡ gate_wires g
+unfolding gate_wires
+wires_of_one q g (inl h) = ap gate_wires (sym h)
+wires_of_one q g (inr (inl h)) = ap gate_wires (sym h)
+wires_of_one q g (inr (inr h)) = ap gate_wires (sym h.1)
 
 pub put-one : (w s slot q : ℕ) (on x z : Bool) (g : Gate) → (g ≡ H q) ⊎ (g ≡ X q) ⊎ ((k : ℕ) × (g ≡ P k q)) → z ≡ cond ((s == slot) && (w % 64 == q % 64)) on x
     → z ≡ cond ((s == slot) && meets (wire_bit w) (Some g)) on x
@@ -451,7 +451,7 @@ to-end n es ms e m = record { room = λ s lt. m.room s (omega arith); same = λ 
     at w s (inr ge) = m.none w s ge ∙ sym (has_any-none (wire_bit w)) ∙ ap (meets (wire_bit w)) (sym (entry-past es s (omega arith)))
 
 -- ---- marked slots have gates on the wire
-pub IsFirstOn-marked : (w a s : ℕ) (es : List (Option Gate)) (ms : List ℕ) → IsMarked es ms → IsFirstMarked w ms a s → IsFirstOn (wire_bit w) es a s
+pub IsFirstOn-marked : (w a s : ℕ) (es : List (Option Gate)) (ms : List ℕ) → IsMarked es ms → IsFirstMarked w ms a s → IsFirstSlotOn (wire_bit w) es a s
 IsFirstOn-marked w a s es ms m f = record { from = f.from; on = sym (m.same w s) ∙ f.on; none = λ u ge lt. sym (m.same w u) ∙ f.none u ge lt }
 
 pub IsLastOn-marked : (w b s : ℕ) (es : List (Option Gate)) (ms : List ℕ) → IsMarked es ms → IsLastMarked w ms b s → IsLastOn (wire_bit w) es b s

@@ -14,7 +14,7 @@ use Rattle.circuit_list.specs.Entries.{entry}
 use Rattle.circuit_list.specs.Gates.{is_on}
 use Rattle.circuit_list.specs.Slots.{is_on_some}
 use Rattle.circuit_list.specs.OnWire.{NoGateOn}
-use Rattle.circuit_list.specs.Tree.{NoneOn, has_any, meets, wire_bit, wires_of}
+use Rattle.circuit_list.specs.Tree.{NoSlotOn, has_any, meets, wire_bit, gate_wires}
 use Rattle.circuit_list.proofs.TreeLaws.{has_any-bit, has_any-or, order}
 
 same_bit : (w q : ℕ) → (w == q) ≡ true → has_any (wire_bit w) (wire_bit q) ≡ true
@@ -35,7 +35,7 @@ or_right true b h = refl
 or_right false b h = h
 
 pub meets-on : (w : ℕ) (g : Gate) → is_on w g ≡ true → meets (wire_bit w) (Some g) ≡ true
-unfolding wires_of
+unfolding gate_wires
 meets-on w (H q) h = same_bit w q h
 meets-on w (X q) h = same_bit w q h
 meets-on w (P k q) h = same_bit w q h
@@ -54,7 +54,7 @@ off w (Some g) h = at (is_on w g) refl
     at false e = e
     at true e = absurd (both_ways (meets (wire_bit w) (Some g)) h (meets-on w g e))
 
-pub NoGateOn-marked : (w : ℕ) (es : List (Option Gate)) (a b : ℕ) → NoneOn (wire_bit w) es a b → NoGateOn w es a b
+pub NoGateOn-marked : (w : ℕ) (es : List (Option Gate)) (a b : ℕ) → NoSlotOn (wire_bit w) es a b → NoGateOn w es a b
 NoGateOn-marked w es a b none s ge lt = off w (entry es s) (none s ge lt)
 
 pub NoGateOn-joined : (w : ℕ) (es : List (Option Gate)) (a b c : ℕ) → NoGateOn w es a b → is_on_some w (entry es b) ≡ false → NoGateOn w es (b + 1) c → NoGateOn w es a c

@@ -21,8 +21,8 @@ use Rattle.std.specs.Int.Bits.{bit_and, bit_or, or_add_and}
 use Rattle.circuit_list.specs.declared.Gate.{Gate}
 use Rattle.circuit_list.specs.declared.Gate.TheVariants.{H, X, P, Cx}
 use Rattle.circuit_list.specs.declared.nodes.Node.{Node}
-use Rattle.circuit_list.specs.Entries.{entry, is_live, rank}
-use Rattle.circuit_list.specs.Tree.{Covers, IsJoined, IsTree, Lacks, IsFirstOn, IsLastOn, NoneOn, any_wire, has_any, join, leaf, meets, node_at, wire_bit, wires_of}
+use Rattle.circuit_list.specs.Entries.{entry, is_live, slot_rank}
+use Rattle.circuit_list.specs.Tree.{CoversSlots, IsJoinedNode, IsTree, Lacks, IsFirstSlotOn, IsLastOn, NoSlotOn, any_wire, has_any, join, leaf, meets, node_at, wire_bit, gate_wires}
 use Rattle.circuit_list.proofs.EntryLaws.{rank-next, rank_le, rank_past, rank-zero}
 
 -- ---- numbers
@@ -105,8 +105,8 @@ unfolding has_any any_wire wire_bit
 any_bit q =
     ap (nat_lt 0) (and_comm (2 ^ (q % 64)) (2 ^ 64 - 1)) ∙ has_any-bit (2 ^ 64 - 1) (q % 64) ∙ ap (λ n. n == 1) (bit_at_ones 64 (q % 64) (omega arith))
 
-any_gate : (g : Gate) → has_any any_wire (wires_of g) ≡ true
-unfolding wires_of
+any_gate : (g : Gate) → has_any any_wire (gate_wires g) ≡ true
+unfolding gate_wires
 any_gate (H q) = any_bit q
 any_gate (X q) = any_bit q
 any_gate (P k q) = any_bit q
@@ -136,7 +136,7 @@ join-beside a b l =
 
 -- an empty slot that gets a gate
 join_leaf : (g : Gate) → join (leaf None) (leaf (Some g)) ≡ leaf (Some g)
-join_leaf g = λ i. record { count = 1; wires = zero_or (wires_of g) i }
+join_leaf g = λ i. record { count = 1; wires = zero_or (gate_wires g) i }
 
 -- ---- nodes
 pub node_at-slot : (es : List (Option Gate)) (ns : List Node) (i s : ℕ) → i ≡ length ns + s → node_at es ns i ≡ leaf (entry es s)
@@ -150,9 +150,9 @@ unfolding node_at
 node_at-inner es ns i d h = get_or_default ns i (leaf (entry es (i - length ns))) d h
 
 -- ---- parts
-pub covers_all : (es : List (Option Gate)) (ns : List Node) → ((j : ℕ) → 0 < j → j < length ns → IsJoined es ns j)
-    → (h i lo : ℕ) → 0 < i → i * 2 ^ h ≡ length ns + lo → lo + 2 ^ h ≤ length ns → Covers es ns h i lo
-unfolding Covers
+pub covers_all : (es : List (Option Gate)) (ns : List Node) → ((j : ℕ) → 0 < j → j < length ns → IsJoinedNode es ns j)
+    → (h i lo : ℕ) → 0 < i → i * 2 ^ h ≡ length ns + lo → lo + 2 ^ h ≤ length ns → CoversSlots es ns h i lo
+unfolding CoversSlots
 covers_all es ns joined zero i lo pos e le = (omega arith, omega arith)
 covers_all es ns joined (suc h) i lo pos e le =
     let p : ℕ = 2 ^ h in
@@ -171,57 +171,57 @@ covers_all es ns joined (suc h) i lo pos e le =
       covers_all es ns joined h (2 * i + 1) (lo + p) (omega arith) (omega arith) (omega arith),
     )
 
-pub covers_root : (h : ℕ) (es : List (Option Gate)) (ns : List Node) → IsTree h es ns → Covers es ns h 1 0
+pub covers_root : (h : ℕ) (es : List (Option Gate)) (ns : List Node) → IsTree h es ns → CoversSlots es ns h 1 0
 covers_root h es ns t = covers_all es ns t.joined h 1 0 (omega arith) (omega (arith, t.size)) (omega (arith, t.size))
 
 -- a node with nodes or slots below it
 pub record AreHalves (es : List (Option Gate)) (ns : List Node) (h k i lo : ℕ) : Type 0 where
   pub height : h ≡ suc k
   pub room : lo + (2 ^ k + 2 ^ k) ≤ length ns
-  pub joined : IsJoined es ns i
-  pub left : Covers es ns k (2 * i) lo
-  pub right : Covers es ns k (2 * i + 1) (lo + 2 ^ k)
+  pub joined : IsJoinedNode es ns i
+  pub left : CoversSlots es ns k (2 * i) lo
+  pub right : CoversSlots es ns k (2 * i + 1) (lo + 2 ^ k)
 
-pub covers_inner : (es : List (Option Gate)) (ns : List Node) (h i lo : ℕ) → i < length ns → Covers es ns h i lo → (k : ℕ) × AreHalves es ns h k i lo
-unfolding Covers
+pub covers_inner : (es : List (Option Gate)) (ns : List Node) (h i lo : ℕ) → i < length ns → CoversSlots es ns h i lo → (k : ℕ) × AreHalves es ns h k i lo
+unfolding CoversSlots
 covers_inner es ns zero i lo lt c = absurd (omega (arith, c.0))
 covers_inner es ns (suc k) i lo lt c = (k, record { height = refl; room = c.1; joined = c.2; left = c.3; right = c.4 })
 
-pub covers_slot : (es : List (Option Gate)) (ns : List Node) (h i lo : ℕ) → length ns ≤ i → Covers es ns h i lo → (h ≡ 0) × (i ≡ length ns + lo)
-unfolding Covers
+pub covers_slot : (es : List (Option Gate)) (ns : List Node) (h i lo : ℕ) → length ns ≤ i → CoversSlots es ns h i lo → (h ≡ 0) × (i ≡ length ns + lo)
+unfolding CoversSlots
 covers_slot es ns zero i lo le c = (refl, c.0)
 covers_slot es ns (suc k) i lo le c = absurd (omega (arith, c.0))
 
-pub covers-positive : (es : List (Option Gate)) (ns : List Node) (h i lo : ℕ) → Covers es ns h i lo → (0 < i) × (i < length ns + length ns)
-unfolding Covers
+pub covers-positive : (es : List (Option Gate)) (ns : List Node) (h i lo : ℕ) → CoversSlots es ns h i lo → (0 < i) × (i < length ns + length ns)
+unfolding CoversSlots
 covers-positive es ns zero i lo c = (omega (arith, c.0, c.1), omega (arith, c.0, c.1))
 covers-positive es ns (suc k) i lo c = let l = covers-positive es ns k (2 * i) lo c.3 in (omega (arith, l.0), omega (arith, c.0))
 
-pub covers-room : (es : List (Option Gate)) (ns : List Node) (h i lo : ℕ) → Covers es ns h i lo → lo + 2 ^ h ≤ length ns
-unfolding Covers
+pub covers-room : (es : List (Option Gate)) (ns : List Node) (h i lo : ℕ) → CoversSlots es ns h i lo → lo + 2 ^ h ≤ length ns
+unfolding CoversSlots
 covers-room es ns zero i lo c = omega (arith, c.1)
 covers-room es ns (suc k) i lo c = let twice : 2 ^ suc k ≡ 2 ^ k + 2 ^ k = two-pow-succ k in omega (arith, c.1)
 
 -- a node has one part below it
-pub covers-same : (es : List (Option Gate)) (ns : List Node) (h k i lo from : ℕ) → Covers es ns h i lo → Covers es ns k i from → (h ≡ k) × (lo ≡ from)
-unfolding Covers
+pub covers-same : (es : List (Option Gate)) (ns : List Node) (h k i lo from : ℕ) → CoversSlots es ns h i lo → CoversSlots es ns k i from → (h ≡ k) × (lo ≡ from)
+unfolding CoversSlots
 covers-same es ns zero zero i lo from c d = (refl, omega (arith, c.0, d.0))
 covers-same es ns zero (suc k) i lo from c d = absurd (omega (arith, c.0, d.0))
 covers-same es ns (suc h) zero i lo from c d = absurd (omega (arith, c.0, d.0))
 covers-same es ns (suc h) (suc k) i lo from c d = let r = covers-same es ns h k (2 * i) lo from c.3 d.3 in (ap suc r.0, r.1)
 
-pub covers_leaf : (es : List (Option Gate)) (ns : List Node) (h i lo : ℕ) → h ≡ 0 → Covers es ns h i lo → node_at es ns i ≡ leaf (entry es lo)
-unfolding Covers
+pub covers_leaf : (es : List (Option Gate)) (ns : List Node) (h i lo : ℕ) → h ≡ 0 → CoversSlots es ns h i lo → node_at es ns i ≡ leaf (entry es lo)
+unfolding CoversSlots
 covers_leaf es ns h i lo e c =
-    let d = subst (λ n. Covers es ns n i lo) e c in
+    let d = subst (λ n. CoversSlots es ns n i lo) e c in
     node_at-slot es ns i lo d.0
 
 -- ---- what a node tells
-pub covers-count : (es : List (Option Gate)) (ns : List Node) → length es < 2 ^ 64 → (h i lo : ℕ) → Covers es ns h i lo
-    → rank es lo + (node_at es ns i).count ≡ rank es (lo + 2 ^ h)
-unfolding Covers
+pub covers-count : (es : List (Option Gate)) (ns : List Node) → length es < 2 ^ 64 → (h i lo : ℕ) → CoversSlots es ns h i lo
+    → slot_rank es lo + (node_at es ns i).count ≡ slot_rank es (lo + 2 ^ h)
+unfolding CoversSlots
 covers-count es ns long zero i lo c =
-    ap (λ (n : Node). rank es lo + n.count) (node_at-slot es ns i lo c.0) ∙ sym (rank-next es lo)
+    ap (λ (n : Node). slot_rank es lo + n.count) (node_at-slot es ns i lo c.0) ∙ sym (rank-next es lo)
 covers-count es ns long (suc h) i lo c =
     let p : ℕ = 2 ^ h in
     let left = covers-count es ns long h (2 * i) lo c.3 in
@@ -229,8 +229,8 @@ covers-count es ns long (suc h) i lo c =
     let few = rank_le es (lo + p + p) in
     let sum : (node_at es ns i).count ≡ min ((node_at es ns (2 * i)).count + (node_at es ns (2 * i + 1)).count) (2 ^ 64 - 1) = ap (λ (n : Node). n.count) c.2 in
     let end : lo + p + p ≡ lo + 2 ^ suc h = add_assoc lo p p ∙ ap (λ n. lo + n) (sym (two-pow-succ h)) in
-    let same : rank es lo + (node_at es ns i).count ≡ rank es (lo + p + p) = omega arith in
-    same ∙ ap (rank es) end
+    let same : slot_rank es lo + (node_at es ns i).count ≡ slot_rank es (lo + p + p) = omega arith in
+    same ∙ ap (slot_rank es) end
 
 or_false : (a b : Bool) → (a || b) ≡ false → (a ≡ false) × (b ≡ false)
 or_false true b h = absurd (cc)
@@ -244,12 +244,12 @@ pub or_true_left : (a b : Bool) → (a || b) ≡ true → b ≡ false → a ≡ 
 or_true_left true b h f = refl
 or_true_left false b h f = absurd (cc)
 
-pub wires-joined : (w : ℕ) (es : List (Option Gate)) (ns : List Node) (i : ℕ) → IsJoined es ns i
+pub wires-joined : (w : ℕ) (es : List (Option Gate)) (ns : List Node) (i : ℕ) → IsJoinedNode es ns i
     → has_any w (node_at es ns i).wires ≡ (has_any w (node_at es ns (2 * i)).wires || has_any w (node_at es ns (2 * i + 1)).wires)
 wires-joined w es ns i e = ap (λ (n : Node). has_any w n.wires) e ∙ has_any-or w (node_at es ns (2 * i)).wires (node_at es ns (2 * i + 1)).wires
 
-pub covers-none : (w : ℕ) (es : List (Option Gate)) (ns : List Node) (h i lo : ℕ) → Covers es ns h i lo → has_any w (node_at es ns i).wires ≡ false → NoneOn w es lo (lo + 2 ^ h)
-unfolding Covers
+pub covers-none : (w : ℕ) (es : List (Option Gate)) (ns : List Node) (h i lo : ℕ) → CoversSlots es ns h i lo → has_any w (node_at es ns i).wires ≡ false → NoSlotOn w es lo (lo + 2 ^ h)
+unfolding CoversSlots
 covers-none w es ns zero i lo c f s ge lt =
     let same : s ≡ lo = omega arith in
     ap (λ n. meets w (entry es n)) same ∙ ap (λ (n : Node). has_any w n.wires) (sym (node_at-slot es ns i lo c.0)) ∙ f
@@ -274,12 +274,12 @@ unfolding node_at
 node_at-set_same es ns m v lt = get_or-set_same ns m v (leaf (entry es (m - length (set ns m v)))) lt
 
 IsJoined-written : (es : List (Option Gate)) (ns : List Node) (m : ℕ) (v : Node) → 0 < m → m < length ns
-    → v ≡ join (node_at es ns (2 * m)) (node_at es ns (2 * m + 1)) → IsJoined es (set ns m v) m
+    → v ≡ join (node_at es ns (2 * m)) (node_at es ns (2 * m + 1)) → IsJoinedNode es (set ns m v) m
 IsJoined-written es ns m v pos lt e =
     node_at-set_same es ns m v lt ∙ e
     ∙ (λ i. join (sym (node_at-set_other es ns m (2 * m) v (λ h. omega arith)) i) (sym (node_at-set_other es ns m (2 * m + 1) v (λ h. omega arith)) i))
 
-IsJoined-kept : (es : List (Option Gate)) (ns : List Node) (m j : ℕ) (v : Node) → j ≢ m → 2 * j ≢ m → 2 * j + 1 ≢ m → IsJoined es ns j → IsJoined es (set ns m v) j
+IsJoined-kept : (es : List (Option Gate)) (ns : List Node) (m j : ℕ) (v : Node) → j ≢ m → 2 * j ≢ m → 2 * j + 1 ≢ m → IsJoinedNode es ns j → IsJoinedNode es (set ns m v) j
 IsJoined-kept es ns m j v a b c e =
     node_at-set_other es ns m j v a ∙ e
     ∙ (λ i. join (sym (node_at-set_other es ns m (2 * j) v b) i) (sym (node_at-set_other es ns m (2 * j + 1) v c) i))
@@ -294,29 +294,29 @@ same_or_not a b = at (a == b) refl
 -- a node told anew, and only the one above it may tell what was
 pub joined-up : (es : List (Option Gate)) (ns : List Node) (m k : ℕ) (v : Node) → 0 < m → m < length ns → k ≡ m / 2
     → v ≡ join (node_at es ns (2 * m)) (node_at es ns (2 * m + 1))
-    → ((j : ℕ) → 0 < j → j < length ns → j ≢ m → IsJoined es ns j)
-    → (j : ℕ) → 0 < j → j < length (set ns m v) → j ≢ k → IsJoined es (set ns m v) j
+    → ((j : ℕ) → 0 < j → j < length ns → j ≢ m → IsJoinedNode es ns j)
+    → (j : ℕ) → 0 < j → j < length (set ns m v) → j ≢ k → IsJoinedNode es (set ns m v) j
 joined-up es ns m k v pos lt ek e old j jpos jlt n = at (same_or_not j m)
   where
     below : j < length ns
     below = omega (arith, length-set ns m v)
 
-    at : (j ≡ m) ⊎ (j ≢ m) → IsJoined es (set ns m v) j
-    at (inl same) = subst (λ i. IsJoined es (set ns m v) i) (sym same) (IsJoined-written es ns m v pos lt e)
+    at : (j ≡ m) ⊎ (j ≢ m) → IsJoinedNode es (set ns m v) j
+    at (inl same) = subst (λ i. IsJoinedNode es (set ns m v) i) (sym same) (IsJoined-written es ns m v pos lt e)
     at (inr other) = IsJoined-kept es ns m j v other (λ h. n (omega arith)) (λ h. n (omega arith)) (old j jpos below other)
 
 -- nodes told from the last to the first
 pub joined-down : (es : List (Option Gate)) (ns : List Node) (m : ℕ) (v : Node) → 0 < m → m < length ns
     → v ≡ join (node_at es ns (2 * m)) (node_at es ns (2 * m + 1))
-    → ((j : ℕ) → m < j → j < length ns → IsJoined es ns j)
-    → (j : ℕ) → m ≤ j → j < length (set ns m v) → IsJoined es (set ns m v) j
+    → ((j : ℕ) → m < j → j < length ns → IsJoinedNode es ns j)
+    → (j : ℕ) → m ≤ j → j < length (set ns m v) → IsJoinedNode es (set ns m v) j
 joined-down es ns m v pos lt e old j le jlt = at (same_or_not j m)
   where
     below : j < length ns
     below = omega (arith, length-set ns m v)
 
-    at : (j ≡ m) ⊎ (j ≢ m) → IsJoined es (set ns m v) j
-    at (inl same) = subst (λ i. IsJoined es (set ns m v) i) (sym same) (IsJoined-written es ns m v pos lt e)
+    at : (j ≡ m) ⊎ (j ≢ m) → IsJoinedNode es (set ns m v) j
+    at (inl same) = subst (λ i. IsJoinedNode es (set ns m v) i) (sym same) (IsJoined-written es ns m v pos lt e)
     at (inr other) = IsJoined-kept es ns m j v other (λ h. omega arith) (λ h. omega arith) (old j (omega arith) below)
 
 -- ---- one slot written
@@ -329,8 +329,8 @@ node_at-entries es fs ns slot i same n = at (order i (length ns))
     at (inr le) = ap (λ e. get_or ns i (leaf e)) (same (i - length ns) (λ h. n (omega arith)))
 
 pub joined-entries : (es fs : List (Option Gate)) (ns : List Node) (slot : ℕ) → ((s : ℕ) → s ≢ slot → entry fs s ≡ entry es s)
-    → ((j : ℕ) → 0 < j → j < length ns → IsJoined es ns j)
-    → (j : ℕ) → 0 < j → j < length ns → j ≢ (length ns + slot) / 2 → IsJoined fs ns j
+    → ((j : ℕ) → 0 < j → j < length ns → IsJoinedNode es ns j)
+    → (j : ℕ) → 0 < j → j < length ns → j ≢ (length ns + slot) / 2 → IsJoinedNode fs ns j
 joined-entries es fs ns slot same old j pos lt n =
     node_at-entries es fs ns slot j same (λ h. omega arith) ∙ old j pos lt
     ∙ (λ i. join (sym (node_at-entries es fs ns slot (2 * j) same (λ h. n (omega arith))) i) (sym (node_at-entries es fs ns slot (2 * j + 1) same (λ h. n (omega arith))) i))
@@ -344,32 +344,32 @@ low_power h lt = at (order h 64)
     at (inr high) = let more : 2 ^ 64 ≤ 2 ^ h = pow-le-pow_right (lit< tt) high in absurd (omega arith)
 
 pub IsTree-more : (h : ℕ) (es : List (Option Gate)) (ns ms : List Node) → IsTree h es ns → length ms ≡ 2 * length ns → length ms < 2 ^ 64
-    → ((j : ℕ) → 0 < j → j < length ms → IsJoined es ms j) → IsTree (h + 1) es ms
+    → ((j : ℕ) → 0 < j → j < length ms → IsJoinedNode es ms j) → IsTree (h + 1) es ms
 IsTree-more h es ns ms t twice few joined =
     let power : 2 ^ (h + 1) ≡ 2 ^ h + 2 ^ h = rw add-one (two-pow-succ h) in
     let size : length ms ≡ 2 ^ (h + 1) = omega (arith, t.size) in
     record { low = low_power (h + 1) (subst (λ n. n < 2 ^ 64) size few); size = size; room = omega (arith, t.room); joined = joined }
 
 -- ---- the root
-pub count_root : (h : ℕ) (es : List (Option Gate)) (ns : List Node) → length es < 2 ^ 64 → IsTree h es ns → (node_at es ns 1).count ≡ rank es (length es)
+pub count_root : (h : ℕ) (es : List (Option Gate)) (ns : List Node) → length es < 2 ^ 64 → IsTree h es ns → (node_at es ns 1).count ≡ slot_rank es (length es)
 count_root h es ns long t =
     let all = covers-count es ns long h 1 0 (covers_root h es ns t) in
     let zero' = rank-zero es in
-    let past : rank es (0 + 2 ^ h) ≡ rank es (length es) = rank_past es (0 + 2 ^ h) (omega (arith, t.size, t.room)) in
+    let past : slot_rank es (0 + 2 ^ h) ≡ slot_rank es (length es) = rank_past es (0 + 2 ^ h) (omega (arith, t.size, t.room)) in
     omega arith
 
 -- ---- the next slot on a wire
-pub joined-none : (w : ℕ) (es : List (Option Gate)) (a m b : ℕ) → NoneOn w es a m → NoneOn w es m b → NoneOn w es a b
+pub joined-none : (w : ℕ) (es : List (Option Gate)) (a m b : ℕ) → NoSlotOn w es a m → NoSlotOn w es m b → NoSlotOn w es a b
 joined-none w es a m b left right s ge lt = at (order s m)
   where
     at : (s < m) ⊎ (m ≤ s) → meets w (entry es s) ≡ false
     at (inl low) = left s ge low
     at (inr high) = right s high lt
 
-pub first-right : (w : ℕ) (es : List (Option Gate)) (a m s : ℕ) → a ≤ m → NoneOn w es a m → IsFirstOn w es m s → IsFirstOn w es a s
+pub first-right : (w : ℕ) (es : List (Option Gate)) (a m s : ℕ) → a ≤ m → NoSlotOn w es a m → IsFirstSlotOn w es m s → IsFirstSlotOn w es a s
 first-right w es a m s le none f = record { from = omega (arith, f.from); on = f.on; none = λ u ge lt. joined-none w es a m s none f.none u ge lt }
 
-pub last-left : (w : ℕ) (es : List (Option Gate)) (m b s : ℕ) → m ≤ b → NoneOn w es m b → IsLastOn w es m s → IsLastOn w es b s
+pub last-left : (w : ℕ) (es : List (Option Gate)) (m b s : ℕ) → m ≤ b → NoSlotOn w es m b → IsLastOn w es m s → IsLastOn w es b s
 last-left w es m b s le none f = record { below = omega (arith, f.below); on = f.on; none = λ u ge lt. joined-none w es (s + 1) m b f.none none u ge lt }
 
 -- a slot that counts has a gate, and counts as one
@@ -379,14 +379,14 @@ leaf_live (Some g) h = (refl, refl)
 
 -- a slot written in a tree: only the node above it may tell what was
 pub joined_written : (h : ℕ) (es fs : List (Option Gate)) (ns ms : List Node) (slot : ℕ) → IsTree h es ns → ((s : ℕ) → s ≢ slot → entry fs s ≡ entry es s) → ms ≡ ns
-    → (j : ℕ) → 0 < j → j < length ms → j ≢ (length ms + slot) / 2 → IsJoined fs ms j
+    → (j : ℕ) → 0 < j → j < length ms → j ≢ (length ms + slot) / 2 → IsJoinedNode fs ms j
 joined_written h es fs ns ms slot t same e =
-    subst (λ (ys : List Node). (j : ℕ) → 0 < j → j < length ys → j ≢ (length ys + slot) / 2 → IsJoined fs ys j) (sym e) (joined-entries es fs ns slot same t.joined)
+    subst (λ (ys : List Node). (j : ℕ) → 0 < j → j < length ys → j ≢ (length ys + slot) / 2 → IsJoinedNode fs ys j) (sym e) (joined-entries es fs ns slot same t.joined)
 
 -- ---- a gate more
 -- the slot's own node lacks it
 pub lacks_leaf : (es fs : List (Option Gate)) (ns : List Node) (slot m : ℕ) (g : Gate) → ((s : ℕ) → s ≢ slot → entry fs s ≡ entry es s)
-    → entry es slot ≡ None → entry fs slot ≡ Some g → m ≡ (length ns + slot) / 2 → m < length ns → IsJoined es ns m → Lacks (Some g) fs ns m
+    → entry es slot ≡ None → entry fs slot ≡ Some g → m ≡ (length ns + slot) / 2 → m < length ns → IsJoinedNode es ns m → Lacks (Some g) fs ns m
 lacks_leaf es fs ns slot m g same empty put half inner old = at (order (length ns + slot) (2 * m + 1))
   where
     was : node_at fs ns m ≡ join (node_at es ns (2 * m)) (node_at es ns (2 * m + 1))
@@ -414,7 +414,7 @@ lacks_leaf es fs ns slot m g same empty put half inner old = at (order (length n
 
 -- a node that got it, and only the one above it lacks it
 pub lacks-up : (es : List (Option Gate)) (ns : List Node) (m k : ℕ) (e : Option Gate) (v : Node) → 0 < m → m < length ns → k ≡ m / 2 → 0 < k
-    → v ≡ join (node_at es ns m) (leaf e) → IsJoined es ns k → Lacks e es (set ns m v) k
+    → v ≡ join (node_at es ns m) (leaf e) → IsJoinedNode es ns k → Lacks e es (set ns m v) k
 lacks-up es ns m k e v pos lt half above new old = at (order m (2 * k + 1))
   where
     was : node_at es (set ns m v) k ≡ join (node_at es ns (2 * k)) (node_at es ns (2 * k + 1))
@@ -451,7 +451,7 @@ written-back n xs ys same all =
 
 -- the nodes told anew in a slice of their vector
 pub IsTree-written : (h n : ℕ) (es fs : List (Option Gate)) (ns xs : List Node) → IsTree h es ns → length xs ≡ length ns → n ≡ length ns → length fs ≤ length ns
-    → ((j : ℕ) → 0 < j → j < length xs → IsJoined fs xs j) → IsTree h fs (take n (xs ++ drop (length xs) ns))
+    → ((j : ℕ) → 0 < j → j < length xs → IsJoinedNode fs xs j) → IsTree h fs (take n (xs ++ drop (length xs) ns))
 IsTree-written h n es fs ns xs t same all few joined =
     subst (λ (ys : List Node). IsTree h fs ys) (sym (written-back n xs ns same all))
     (record { low = t.low; size = same ∙ t.size; room = omega arith; joined = joined })

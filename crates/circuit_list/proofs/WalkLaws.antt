@@ -10,8 +10,8 @@ use Rattle.std.proofs.Common.{◌≡◌, ℕ, zero, suc, ◌+◌, ◌-◌, ◌*�
 use Rattle.std.proofs.Math.Nat.{one-mul, mul-one, add-mul, mul-add, two-pow-succ, one-le-pow, mul-le-mul_right}
 use Rattle.circuit_list.specs.declared.Gate.{Gate}
 use Rattle.circuit_list.specs.declared.nodes.Node.{Node}
-use Rattle.circuit_list.specs.Entries.{entry, is_live, rank}
-use Rattle.circuit_list.specs.Tree.{Covers, IsFirstOn, IsJoined, IsLastOn, IsTree, NoneOn, Spans, any_wire, has_any, meets, node_at}
+use Rattle.circuit_list.specs.Entries.{entry, is_live, slot_rank}
+use Rattle.circuit_list.specs.Tree.{CoversSlots, IsFirstSlotOn, IsJoinedNode, IsLastOn, IsTree, NoSlotOn, Spans, any_wire, has_any, meets, node_at}
 use Rattle.circuit_list.proofs.EntryLaws.{rank_le, rank-zero}
 use Rattle.circuit_list.proofs.TreeLaws.{covers_all, covers_inner, covers_leaf, covers_root, covers_slot, covers-count, covers-none, covers-same, first-right, joined-none, last-left, leaf_live, meets_any, or_true, or_true_left, order, wires-joined}
 
@@ -99,7 +99,7 @@ spans-room ns h i lo s =
     let twice : (q + q) * p ≡ q * p + q * p = add-mul q q p in
     omega (arith, s.begin, s.size)
 
-pub spans-covers : (es : List (Option Gate)) (ns : List Node) (h i lo : ℕ) → ((j : ℕ) → 0 < j → j < length ns → IsJoined es ns j) → Spans ns h i lo → Covers es ns h i lo
+pub spans-covers : (es : List (Option Gate)) (ns : List Node) (h i lo : ℕ) → ((j : ℕ) → 0 < j → j < length ns → IsJoinedNode es ns j) → Spans ns h i lo → CoversSlots es ns h i lo
 spans-covers es ns h i lo joined s =
     let one : 1 ≤ 2 ^ s.depth = one-le-pow s.depth 2 (omega arith) in
     covers_all es ns joined h i lo (omega (arith, s.low)) s.begin (spans-room ns h i lo s)
@@ -111,7 +111,7 @@ pub record Ahead (m : ℕ) (es : List (Option Gate)) (ns : List Node) (slot node
   pub spans : Spans ns h node lo
   pub begin : lo ≤ slot
   pub end : slot < lo + 2 ^ h
-  pub none : NoneOn m es (slot + 1) (lo + 2 ^ h)
+  pub none : NoSlotOn m es (slot + 1) (lo + 2 ^ h)
 
 pub ahead-begin : (m h : ℕ) (es : List (Option Gate)) (ns : List Node) (slot : ℕ) → IsTree h es ns → slot < length ns → Ahead m es ns slot (length ns + slot)
 ahead-begin m h es ns slot t lt = record {
@@ -124,11 +124,11 @@ ahead-begin m h es ns slot t lt = record {
 }
 
 -- at a left node, whose neighbour is to the right
-pub ahead_beside : (m : ℕ) (es : List (Option Gate)) (ns : List Node) (slot node k : ℕ) → ((j : ℕ) → 0 < j → j < length ns → IsJoined es ns j) → 1 < node → node ≡ k + k
-    → (a : Ahead m es ns slot node) → Covers es ns a.h (node + 1) (a.lo + 2 ^ a.h)
+pub ahead_beside : (m : ℕ) (es : List (Option Gate)) (ns : List Node) (slot node k : ℕ) → ((j : ℕ) → 0 < j → j < length ns → IsJoinedNode es ns j) → 1 < node → node ≡ k + k
+    → (a : Ahead m es ns slot node) → CoversSlots es ns a.h (node + 1) (a.lo + 2 ^ a.h)
 ahead_beside m es ns slot node k joined more even a = spans-covers es ns a.h (node + 1) (a.lo + 2 ^ a.h) joined (spans_beside ns a.h node k a.lo more even a.spans)
 
-pub ahead-left : (m : ℕ) (es : List (Option Gate)) (ns : List Node) (slot node k : ℕ) → ((j : ℕ) → 0 < j → j < length ns → IsJoined es ns j) → 1 < node → node ≡ k + k
+pub ahead-left : (m : ℕ) (es : List (Option Gate)) (ns : List Node) (slot node k : ℕ) → ((j : ℕ) → 0 < j → j < length ns → IsJoinedNode es ns j) → 1 < node → node ≡ k + k
     → has_any m (node_at es ns (node + 1)).wires ≡ false → Ahead m es ns slot node → Ahead m es ns slot k
 ahead-left m es ns slot node k joined more even lacks a =
     let p : ℕ = 2 ^ a.h in
@@ -158,10 +158,10 @@ ahead-right m es ns slot node k more odd a =
       none = λ s ge lt. a.none s ge (omega arith);
     }
 
-pub ahead-found : (m : ℕ) (es : List (Option Gate)) (ns : List Node) (slot node s : ℕ) → (a : Ahead m es ns slot node) → IsFirstOn m es (a.lo + 2 ^ a.h) s → IsFirstOn m es (slot + 1) s
+pub ahead-found : (m : ℕ) (es : List (Option Gate)) (ns : List Node) (slot node s : ℕ) → (a : Ahead m es ns slot node) → IsFirstSlotOn m es (a.lo + 2 ^ a.h) s → IsFirstSlotOn m es (slot + 1) s
 ahead-found m es ns slot node s a f = first-right m es (slot + 1) (a.lo + 2 ^ a.h) s (omega (arith, a.end)) a.none f
 
-pub ahead-end : (m : ℕ) (es : List (Option Gate)) (ns : List Node) (slot node : ℕ) → node ≤ 1 → Ahead m es ns slot node → NoneOn m es (slot + 1) (length ns)
+pub ahead-end : (m : ℕ) (es : List (Option Gate)) (ns : List Node) (slot node : ℕ) → node ≤ 1 → Ahead m es ns slot node → NoSlotOn m es (slot + 1) (length ns)
 ahead-end m es ns slot node le a s ge lt =
     let r = spans_root ns a.h node a.lo le a.spans in
     let begin = r.0 in
@@ -173,7 +173,7 @@ pub record Back (m : ℕ) (es : List (Option Gate)) (ns : List Node) (slot node 
   pub lo : ℕ
   pub spans : Spans ns h node lo
   pub begin : lo ≤ slot
-  pub none : NoneOn m es lo slot
+  pub none : NoSlotOn m es lo slot
 
 pub back-begin : (m h : ℕ) (es : List (Option Gate)) (ns : List Node) (slot : ℕ) → IsTree h es ns → slot < length ns → Back m es ns slot (length ns + slot)
 back-begin m h es ns slot t lt = record {
@@ -190,15 +190,15 @@ back-left m es ns slot node k more even a = record { h = suc a.h; lo = a.lo; spa
 -- at a right node, whose neighbour is to the left
 pub record Beside (es : List (Option Gate)) (ns : List Node) (h node lo : ℕ) : Type 0 where
   pub room : 2 ^ h ≤ lo
-  pub covers : Covers es ns h (node - 1) (lo - 2 ^ h)
+  pub covers : CoversSlots es ns h (node - 1) (lo - 2 ^ h)
 
-pub beside : (es : List (Option Gate)) (ns : List Node) (h node k lo : ℕ) → ((j : ℕ) → 0 < j → j < length ns → IsJoined es ns j) → 1 < node → node ≡ k + k + 1 → Spans ns h node lo
+pub beside : (es : List (Option Gate)) (ns : List Node) (h node k lo : ℕ) → ((j : ℕ) → 0 < j → j < length ns → IsJoinedNode es ns j) → 1 < node → node ≡ k + k + 1 → Spans ns h node lo
     → Beside es ns h node lo
 beside es ns h node k lo joined more odd s =
     let r = spans-right ns h node k lo more odd s in
     record { room = r.room; covers = spans-covers es ns h (node - 1) (lo - 2 ^ h) joined r.beside }
 
-pub back-right : (m : ℕ) (es : List (Option Gate)) (ns : List Node) (slot node k : ℕ) → ((j : ℕ) → 0 < j → j < length ns → IsJoined es ns j) → 1 < node → node ≡ k + k + 1
+pub back-right : (m : ℕ) (es : List (Option Gate)) (ns : List Node) (slot node k : ℕ) → ((j : ℕ) → 0 < j → j < length ns → IsJoinedNode es ns j) → 1 < node → node ≡ k + k + 1
     → has_any m (node_at es ns (node - 1)).wires ≡ false → Back m es ns slot node → Back m es ns slot k
 back-right m es ns slot node k joined more odd lacks a =
     let p : ℕ = 2 ^ a.h in
@@ -219,7 +219,7 @@ back-found m es ns slot node s a room f =
     let same : a.lo - 2 ^ a.h + 2 ^ a.h ≡ a.lo = omega arith in
     last-left m es a.lo slot s a.begin a.none (subst (λ n. IsLastOn m es n s) same f)
 
-pub back-end : (m : ℕ) (es : List (Option Gate)) (ns : List Node) (slot node : ℕ) → node ≤ 1 → Back m es ns slot node → NoneOn m es 0 slot
+pub back-end : (m : ℕ) (es : List (Option Gate)) (ns : List Node) (slot node : ℕ) → node ≤ 1 → Back m es ns slot node → NoSlotOn m es 0 slot
 back-end m es ns slot node le a s ge lt =
     let r = spans_root ns a.h node a.lo le a.spans in
     let begin = r.0 in
@@ -229,11 +229,11 @@ back-end m es ns slot node le a s ge lt =
 pub record First (m : ℕ) (es : List (Option Gate)) (ns : List Node) (top node : ℕ) : Type 0 where
   pub h : ℕ
   pub lo : ℕ
-  pub covers : Covers es ns h node lo
+  pub covers : CoversSlots es ns h node lo
   pub on : has_any m (node_at es ns node).wires ≡ true
-  pub found : (k from : ℕ) → Covers es ns k top from → (from ≤ lo) × NoneOn m es from lo
+  pub found : (k from : ℕ) → CoversSlots es ns k top from → (from ≤ lo) × NoSlotOn m es from lo
 
-pub first-begin : (m : ℕ) (es : List (Option Gate)) (ns : List Node) (top h lo : ℕ) → Covers es ns h top lo → has_any m (node_at es ns top).wires ≡ true → First m es ns top top
+pub first-begin : (m : ℕ) (es : List (Option Gate)) (ns : List Node) (top h lo : ℕ) → CoversSlots es ns h top lo → has_any m (node_at es ns top).wires ≡ true → First m es ns top top
 first-begin m es ns top h lo c on = record {
   h = h;
   lo = lo;
@@ -267,23 +267,23 @@ first-past m es ns top node lt lacks f =
     }
 
 pub first-end : (m : ℕ) (es : List (Option Gate)) (ns : List Node) (top node s : ℕ) → length ns ≤ node → s ≡ node - length ns → First m es ns top node
-    → (h lo : ℕ) → Covers es ns h top lo → IsFirstOn m es lo s
+    → (h lo : ℕ) → CoversSlots es ns h top lo → IsFirstSlotOn m es lo s
 first-end m es ns top node s le e f h lo c =
     let d = covers_slot es ns f.h node f.lo le f.covers in
     let place = d.1 in
     let same : s ≡ f.lo = omega arith in
     let on : meets m (entry es f.lo) ≡ true = ap (λ (n : Node). has_any m n.wires) (sym (covers_leaf es ns f.h node f.lo d.0 f.covers)) ∙ f.on in
     let r = f.found h lo c in
-    subst (λ n. IsFirstOn m es lo n) (sym same) (record { from = r.0; on = on; none = r.1 })
+    subst (λ n. IsFirstSlotOn m es lo n) (sym same) (record { from = r.0; on = on; none = r.1 })
 
 pub record Last (m : ℕ) (es : List (Option Gate)) (ns : List Node) (top node : ℕ) : Type 0 where
   pub h : ℕ
   pub lo : ℕ
-  pub covers : Covers es ns h node lo
+  pub covers : CoversSlots es ns h node lo
   pub on : has_any m (node_at es ns node).wires ≡ true
-  pub found : (k from : ℕ) → Covers es ns k top from → (lo + 2 ^ h ≤ from + 2 ^ k) × NoneOn m es (lo + 2 ^ h) (from + 2 ^ k)
+  pub found : (k from : ℕ) → CoversSlots es ns k top from → (lo + 2 ^ h ≤ from + 2 ^ k) × NoSlotOn m es (lo + 2 ^ h) (from + 2 ^ k)
 
-pub last-begin : (m : ℕ) (es : List (Option Gate)) (ns : List Node) (top h lo : ℕ) → Covers es ns h top lo → has_any m (node_at es ns top).wires ≡ true → Last m es ns top top
+pub last-begin : (m : ℕ) (es : List (Option Gate)) (ns : List Node) (top h lo : ℕ) → CoversSlots es ns h top lo → has_any m (node_at es ns top).wires ≡ true → Last m es ns top top
 last-begin m es ns top h lo c on = record {
   h = h;
   lo = lo;
@@ -308,7 +308,7 @@ last-right m es ns top node lt has f =
       lo = f.lo + p;
       covers = d.1.right;
       on = has;
-      found = λ k from c. subst (λ n. (n ≤ from + 2 ^ k) × NoneOn m es n (from + 2 ^ k)) end (f.found k from c);
+      found = λ k from c. subst (λ n. (n ≤ from + 2 ^ k) × NoSlotOn m es n (from + 2 ^ k)) end (f.found k from c);
     }
 
 pub last-past : (m : ℕ) (es : List (Option Gate)) (ns : List Node) (top node : ℕ) → node < length ns → has_any m (node_at es ns (2 * node + 1)).wires ≡ false
@@ -327,12 +327,12 @@ last-past m es ns top node lt lacks f =
       found = λ k from c.
           let r = f.found k from c in
           let le = r.0 in
-          let rest : NoneOn m es (f.lo + p + p) (from + 2 ^ k) = λ s ge below. r.1 s (omega arith) below in
+          let rest : NoSlotOn m es (f.lo + p + p) (from + 2 ^ k) = λ s ge below. r.1 s (omega arith) below in
           (omega arith, λ s ge below. joined-none m es (f.lo + p) (f.lo + p + p) (from + 2 ^ k) none rest s ge below);
     }
 
 pub last-end : (m : ℕ) (es : List (Option Gate)) (ns : List Node) (top node s : ℕ) → length ns ≤ node → s ≡ node - length ns → Last m es ns top node
-    → (h lo : ℕ) → Covers es ns h top lo → IsLastOn m es (lo + 2 ^ h) s
+    → (h lo : ℕ) → CoversSlots es ns h top lo → IsLastOn m es (lo + 2 ^ h) s
 last-end m es ns top node s le e f h lo c =
     let d = covers_slot es ns f.h node f.lo le f.covers in
     let place = d.1 in
@@ -348,7 +348,7 @@ pub record Counted (es : List (Option Gate)) (ns : List Node) (slot count node :
   pub h : ℕ
   pub lo : ℕ
   pub spans : Spans ns h node lo
-  pub counted : rank es lo + count ≡ rank es slot
+  pub counted : slot_rank es lo + count ≡ slot_rank es slot
 
 pub counted-begin : (h : ℕ) (es : List (Option Gate)) (ns : List Node) (slot : ℕ) → IsTree h es ns → slot < length ns → Counted es ns slot 0 (length ns + slot)
 counted-begin h es ns slot t lt = record { h = 0; lo = slot; spans = spans_leaf h es ns slot t lt; counted = omega arith }
@@ -356,33 +356,33 @@ counted-begin h es ns slot t lt = record { h = 0; lo = slot; spans = spans_leaf 
 pub counted-left : (es : List (Option Gate)) (ns : List Node) (slot count node k : ℕ) → 1 < node → node ≡ k + k → Counted es ns slot count node → Counted es ns slot count k
 counted-left es ns slot count node k more even a = record { h = suc a.h; lo = a.lo; spans = spans-left ns a.h node k a.lo more even a.spans; counted = a.counted }
 
-pub counted-more : (es : List (Option Gate)) (ns : List Node) (slot count node k : ℕ) → length es < 2 ^ 64 → ((j : ℕ) → 0 < j → j < length ns → IsJoined es ns j) → 1 < node → node ≡ k + k + 1
-    → (a : Counted es ns slot count node) → rank es (a.lo - 2 ^ a.h) + (count + (node_at es ns (node - 1)).count) ≡ rank es slot
+pub counted-more : (es : List (Option Gate)) (ns : List Node) (slot count node k : ℕ) → length es < 2 ^ 64 → ((j : ℕ) → 0 < j → j < length ns → IsJoinedNode es ns j) → 1 < node → node ≡ k + k + 1
+    → (a : Counted es ns slot count node) → slot_rank es (a.lo - 2 ^ a.h) + (count + (node_at es ns (node - 1)).count) ≡ slot_rank es slot
 counted-more es ns slot count node k long joined more odd a =
     let p : ℕ = 2 ^ a.h in
     let b = beside es ns a.h node k a.lo joined more odd a.spans in
     let room = b.room in
     let sum = covers-count es ns long a.h (node - 1) (a.lo - p) b.covers in
-    let same = ap (rank es) (let e : a.lo - p + p ≡ a.lo = omega arith in e) in
+    let same = ap (slot_rank es) (let e : a.lo - p + p ≡ a.lo = omega arith in e) in
     let old = a.counted in
     omega arith
 
-pub counted-right : (es : List (Option Gate)) (ns : List Node) (slot count node k : ℕ) → length es < 2 ^ 64 → ((j : ℕ) → 0 < j → j < length ns → IsJoined es ns j) → 1 < node → node ≡ k + k + 1
+pub counted-right : (es : List (Option Gate)) (ns : List Node) (slot count node k : ℕ) → length es < 2 ^ 64 → ((j : ℕ) → 0 < j → j < length ns → IsJoinedNode es ns j) → 1 < node → node ≡ k + k + 1
     → Counted es ns slot count node → Counted es ns slot (count + (node_at es ns (node - 1)).count) k
 counted-right es ns slot count node k long joined more odd a =
     let r = spans-right ns a.h node k a.lo more odd a.spans in
     record { h = suc a.h; lo = a.lo - 2 ^ a.h; spans = r.above; counted = counted-more es ns slot count node k long joined more odd a }
 
-pub counted-few : (es : List (Option Gate)) (ns : List Node) (slot count node k : ℕ) → length es < 2 ^ 64 → ((j : ℕ) → 0 < j → j < length ns → IsJoined es ns j) → 1 < node → node ≡ k + k + 1
+pub counted-few : (es : List (Option Gate)) (ns : List Node) (slot count node k : ℕ) → length es < 2 ^ 64 → ((j : ℕ) → 0 < j → j < length ns → IsJoinedNode es ns j) → 1 < node → node ≡ k + k + 1
     → Counted es ns slot count node → count + (node_at es ns (node - 1)).count ≤ length es
 counted-few es ns slot count node k long joined more odd a =
     let sum = counted-more es ns slot count node k long joined more odd a in
     let few = rank_le es slot in
     omega arith
 
-pub counted-end : (es : List (Option Gate)) (ns : List Node) (slot count node : ℕ) → node ≤ 1 → Counted es ns slot count node → count ≡ rank es slot
+pub counted-end : (es : List (Option Gate)) (ns : List Node) (slot count node : ℕ) → node ≤ 1 → Counted es ns slot count node → count ≡ slot_rank es slot
 counted-end es ns slot count node le a =
-    let begin = ap (rank es) (spans_root ns a.h node a.lo le a.spans).0 in
+    let begin = ap (slot_rank es) (spans_root ns a.h node a.lo le a.spans).0 in
     let none = rank-zero es in
     let sum = a.counted in
     omega arith
@@ -390,9 +390,9 @@ counted-end es ns slot count node le a =
 pub record Placed (es : List (Option Gate)) (ns : List Node) (place rest node : ℕ) : Type 0 where
   pub h : ℕ
   pub lo : ℕ
-  pub covers : Covers es ns h node lo
+  pub covers : CoversSlots es ns h node lo
   pub there : rest < (node_at es ns node).count
-  pub before : rank es lo + rest ≡ place
+  pub before : slot_rank es lo + rest ≡ place
 
 pub placed-begin : (h : ℕ) (es : List (Option Gate)) (ns : List Node) (place : ℕ) → IsTree h es ns → place < (node_at es ns 1).count → Placed es ns place place 1
 placed-begin h es ns place t lt = record { h = h; lo = 0; covers = covers_root h es ns t; there = lt; before = let none = rank-zero es in omega arith }
@@ -414,7 +414,7 @@ placed-right es ns place rest node long lt low a =
     record { h = d.0; lo = a.lo + 2 ^ d.0; covers = d.1.right; there = omega arith; before = omega arith }
 
 pub placed-end : (es : List (Option Gate)) (ns : List Node) (place rest node s : ℕ) → length ns ≤ node → s ≡ node - length ns → Placed es ns place rest node
-    → (is_live (entry es s) ≡ true) × (rank es s ≡ place)
+    → (is_live (entry es s) ≡ true) × (slot_rank es s ≡ place)
 placed-end es ns place rest node s le e a =
     let d = covers_slot es ns a.h node a.lo le a.covers in
     let place' = d.1 in
@@ -424,7 +424,7 @@ placed-end es ns place rest node s le e a =
     let one = leaf_live (entry es a.lo) (omega arith) in
     let alone = one.1 in
     let before = a.before in
-    (ap (λ n. is_live (entry es n)) same ∙ one.0, ap (rank es) same ∙ (let e : rank es a.lo ≡ place = omega arith in e))
+    (ap (λ n. is_live (entry es n)) same ∙ one.0, ap (slot_rank es) same ∙ (let e : slot_rank es a.lo ≡ place = omega arith in e))
 
 -- ---- from a slot on
 pub some_meets : (e : Option Gate) → is_some e ≡ true → meets any_wire e ≡ true
@@ -436,7 +436,7 @@ none_meets None h = meets_any None
 none_meets (Some g) h = cc
 
 pub from-next : (m : ℕ) (es : List (Option Gate)) (slot : ℕ) (o : Option ℕ) → meets m (entry es slot) ≡ false
-    → MatchOption o (NoneOn m es (slot + 1) (length es)) (IsFirstOn m es (slot + 1)) → MatchOption o (NoneOn m es slot (length es)) (IsFirstOn m es slot)
+    → MatchOption o (NoSlotOn m es (slot + 1) (length es)) (IsFirstSlotOn m es (slot + 1)) → MatchOption o (NoSlotOn m es slot (length es)) (IsFirstSlotOn m es slot)
 from-next m es slot None off none = λ s ge lt. at s lt (order s (slot + 1)) ge
   where
     at : (s : ℕ) → s < length es → (s < slot + 1) ⊎ (slot + 1 ≤ s) → slot ≤ s → meets m (entry es s) ≡ false

@@ -1,6 +1,6 @@
 -- Working form.
 -- What a slot holds, as a gate or none.
---   gate_of h      the gate that is held, if any
+--   held_gate h    the gate that is held, if any
 --   held_of g      how a gate or none is held
 --   held_of-gate_of  nothing is lost on the way there and back
 use Rattle.std.proofs.Common.{◌≡◌, Option, None, Some, refl}
@@ -9,12 +9,12 @@ use Rattle.circuit_list.specs.declared.Gate.TheVariants.{H, X, P, Cx}
 use Rattle.circuit_list.specs.declared.entry.Held.{Held}
 use Rattle.circuit_list.specs.declared.entry.Held.TheVariants.{H as HeldH, X as HeldX, P as HeldP, Cx as HeldCx, Nothing}
 
-abbrev pub gate_of : Held → Option Gate
-gate_of (HeldH q) = Some (H q)
-gate_of (HeldX q) = Some (X q)
-gate_of (HeldP k q) = Some (P k q)
-gate_of (HeldCx c t) = Some (Cx c t)
-gate_of Nothing = None
+abbrev pub held_gate : Held → Option Gate
+held_gate (HeldH q) = Some (H q)
+held_gate (HeldX q) = Some (X q)
+held_gate (HeldP k q) = Some (P k q)
+held_gate (HeldCx c t) = Some (Cx c t)
+held_gate Nothing = None
 
 abbrev pub held_of : Option Gate → Held
 held_of (Some (H q)) = HeldH q
@@ -23,7 +23,7 @@ held_of (Some (P k q)) = HeldP k q
 held_of (Some (Cx c t)) = HeldCx c t
 held_of None = Nothing
 
-pub held_of-gate_of : (h : Held) → held_of (gate_of h) ≡ h
+pub held_of-gate_of : (h : Held) → held_of (held_gate h) ≡ h
 held_of-gate_of (HeldH q) = refl
 held_of-gate_of (HeldX q) = refl
 held_of-gate_of (HeldP k q) = refl

@@ -24,11 +24,11 @@ pub(crate) struct Entry {
 impl Model for Entry {
     ghost use Rattle.std.specs.Prelude.{◌≡◌, Option};
     ghost use Rattle.circuit_list.specs.declared.Gate.{Gate};
-    ghost use Rattle.circuit_list.specs.Held.{gate_of, held_of, held_of-gate_of};
+    ghost use Rattle.circuit_list.specs.Held.{held_gate, held_of, held_of-gate_of};
 
     ghost Value = { Option Gate };
 
-    ghost view = { λ e. gate_of e.held };
+    ghost view = { λ e. held_gate e.held };
 
     ghost inverse = { λ g. record { held = held_of g } };
 

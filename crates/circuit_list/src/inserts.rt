@@ -6,7 +6,7 @@
 //! ones are made.
 
 ghost use Rattle.std.specs.Prelude.{◌≡◌, ◌+◌, ◌<◌, ◌≤◌, ◌++◌, length, IfOk, IfSome, OnErr, OnOk, drop, false, slice_set, take, true};
-ghost use Rattle.circuit_list.specs.Entries.{gates_of, rank};
+ghost use Rattle.circuit_list.specs.Entries.{entry_gates, slot_rank};
 
 use crate::Gate;
 use crate::entry::Entry;
@@ -38,8 +38,8 @@ struct Window {
 impl Tree {
     /// Puts the gates of some slots before the one at a place, or behind all. If memory runs out, the slots are as they were.
     pub(crate) fn insert(&mut self, place: usize, entries: &[Entry]) -> Result<(), AllocError>
-        requires within { place ≤ rank self.old (length self.old) }
-        ensures ok { OnOk result (gates_of self.new ≡ take place (gates_of self.old) ++ (gates_of entries.now ++ drop place (gates_of self.old))) }
+        requires within { place ≤ slot_rank self.old (length self.old) }
+        ensures ok { OnOk result (entry_gates self.new ≡ take place (entry_gates self.old) ++ (entry_gates entries.now ++ drop place (entry_gates self.old))) }
         ensures err { OnErr result (self.new ≡ self.old) }
     {
         let more = live(self.allocator(), entries)?;
@@ -58,9 +58,9 @@ impl Tree {
 
     /// The slot behind the gate before a place.
     fn behind(&self, place: usize) -> usize
-        requires { place ≤ rank self.now (length self.now) }
+        requires { place ≤ slot_rank self.now (length self.now) }
         ensures within { result ≤ length self.now }
-        ensures value { rank self.now result ≡ place }
+        ensures value { slot_rank self.now result ≡ place }
     {
         if place == 0 {
             return 0;
@@ -123,7 +123,7 @@ impl Tree {
 
     /// The number of gates in the slots before one, or in all.
     fn rank_to(&self, slot: usize) -> usize
-        ensures { result ≡ rank self.now slot }
+        ensures { result ≡ slot_rank self.now slot }
     {
         if slot < self.entries().len() {
             self.rank(slot)
@@ -150,8 +150,8 @@ impl Tree {
     ) -> Result<Vec<Entry>, AllocError>
         requires ordered { (low ≤ at) × (at ≤ high) }
         requires within { high ≤ length self.now }
-        ensures gates { IfOk result (λ v. gates_of (take low self.now) ++ (gates_of v.items ++ gates_of (drop high self.now))
-            ≡ take (rank self.now at) (gates_of self.now) ++ (gates_of more.now ++ drop (rank self.now at) (gates_of self.now))) }
+        ensures gates { IfOk result (λ v. entry_gates (take low self.now) ++ (entry_gates v.items ++ entry_gates (drop high self.now))
+            ≡ take (slot_rank self.now at) (entry_gates self.now) ++ (entry_gates more.now ++ drop (slot_rank self.now at) (entry_gates self.now))) }
     {
         let slots = self.entries();
         let mut joined = live(self.allocator(), &slots[low..at])?;
@@ -166,7 +166,7 @@ impl Tree {
     fn lay(&mut self, low: usize, high: usize, gates: &[Entry])
         requires room { low + length gates.now ≤ high }
         requires within { high ≤ length self.old }
-        ensures { gates_of self.new ≡ gates_of (take low self.old) ++ (gates_of gates.now ++ gates_of (drop high self.old)) }
+        ensures { entry_gates self.new ≡ entry_gates (take low self.old) ++ (entry_gates gates.now ++ entry_gates (drop high self.old)) }
     {
         let width = high - low;
         let mut owed = width / 2;
@@ -197,7 +197,7 @@ impl Tree {
     /// New slots for gates, as many again as these, and links where there were some. If memory runs out, the slots are as they were.
     /// A window of 2^h slots keeps h in 64 empty, a third from two million slots on, for which half as many again would be too few.
     fn remake(&mut self, gates: &[Entry]) -> Result<(), AllocError>
-        ensures ok { OnOk result (gates_of self.new ≡ gates_of gates.now) }
+        ensures ok { OnOk result (entry_gates self.new ≡ entry_gates gates.now) }
         ensures err { OnErr result (self.new ≡ self.old) }
     {
         let slots = gates

@@ -95,14 +95,14 @@ pub struct Circuit {
 impl Model for Circuit {
     ghost use Rattle.std.specs.Prelude.{◌≤◌, All};
     ghost use Rattle.circuit_list.specs.Body.{Body};
-    ghost use Rattle.circuit_list.specs.Entries.{gates_of, slots_from};
+    ghost use Rattle.circuit_list.specs.Entries.{entry_gates, slots_from};
     ghost use Rattle.circuit_list.specs.Gates.{IsFine, most_wires};
 
     ghost Value = { Body };
 
-    ghost view = { λ a. record { wires = a.wires; gates = gates_of a.tree; slots = slots_from 0 a.tree } };
+    ghost view = { λ a. record { wires = a.wires; gates = entry_gates a.tree; slots = slots_from 0 a.tree } };
 
-    ghost invariant = { λ a. (a.wires ≤ most_wires) × All (IsFine a.wires) (gates_of a.tree) };
+    ghost invariant = { λ a. (a.wires ≤ most_wires) × All (IsFine a.wires) (entry_gates a.tree) };
 }
 
 impl Circuit {

@@ -6,7 +6,7 @@
 ghost use Rattle.std.specs.Prelude.{◌≡◌, ℕ, ◌+◌, ◌*◌, ◌/◌, ◌<◌, ◌≢◌, length, Some};
 ghost use Rattle.circuit_list.specs.Entries.{entry};
 ghost use Rattle.circuit_list.specs.Gates.{is_on};
-ghost use Rattle.circuit_list.specs.Tree.{IsJoined, Lacks, has_any, join, leaf, meets, node_at, wire_bit, wires_of};
+ghost use Rattle.circuit_list.specs.Tree.{IsJoinedNode, Lacks, has_any, join, leaf, meets, node_at, wire_bit, gate_wires};
 
 use crate::Gate;
 use crate::entry::Entry;
@@ -27,9 +27,9 @@ pub(crate) fn wire_bit(wire: u32) -> u64
     1 << (wire % 64)
 }
 
-#[tactic(auto, unfolding(crate::specs::Tree::wires_of))]
+#[tactic(auto, unfolding(crate::specs::Tree::gate_wires))]
 fn wires_of(gate: Gate) -> u64
-    ensures { result ≡ wires_of gate }
+    ensures { result ≡ gate_wires gate }
 {
     match gate {
         Gate::H { q } | Gate::X { q } | Gate::P { k: _, q } => wire_bit(q),
@@ -119,8 +119,8 @@ fn joined(gates: &[Entry], nodes: &[Node], node: usize) -> Node
 /// Tells the nodes above a slot anew.
 pub(crate) fn refresh(gates: &[Entry], nodes: &mut [Node], slot: usize)
     requires within { slot < length nodes.old }
-    requires others { (j : ℕ) → 0 < j → j < length nodes.old → j ≢ (length nodes.old + slot) / 2 → IsJoined gates.now nodes.old j }
-    ensures new { (j : ℕ) → 0 < j → j < length nodes.old → IsJoined gates.now nodes.new j }
+    requires others { (j : ℕ) → 0 < j → j < length nodes.old → j ≢ (length nodes.old + slot) / 2 → IsJoinedNode gates.now nodes.old j }
+    ensures new { (j : ℕ) → 0 < j → j < length nodes.old → IsJoinedNode gates.now nodes.new j }
 {
     let mut node = nodes.len() + slot;
     'up: while node > 1 {
@@ -132,9 +132,9 @@ pub(crate) fn refresh(gates: &[Entry], nodes: &mut [Node], slot: usize)
 /// Adds a gate, which a slot has got, to the nodes above the slot.
 pub(crate) fn add(gates: &[Entry], nodes: &mut [Node], slot: usize, gate: Gate)
     requires within { slot < length nodes.old }
-    requires others { (j : ℕ) → 0 < j → j < length nodes.old → j ≢ (length nodes.old + slot) / 2 → IsJoined gates.now nodes.old j }
+    requires others { (j : ℕ) → 0 < j → j < length nodes.old → j ≢ (length nodes.old + slot) / 2 → IsJoinedNode gates.now nodes.old j }
     requires lacks { 0 < (length nodes.old + slot) / 2 → Lacks (Some gate) gates.now nodes.old ((length nodes.old + slot) / 2) }
-    ensures new { (j : ℕ) → 0 < j → j < length nodes.old → IsJoined gates.now nodes.new j }
+    ensures new { (j : ℕ) → 0 < j → j < length nodes.old → IsJoinedNode gates.now nodes.new j }
 {
     let more = leaf(Entry::of(Some(gate)));
     let mut node = (nodes.len() + slot) / 2;
@@ -147,7 +147,7 @@ pub(crate) fn add(gates: &[Entry], nodes: &mut [Node], slot: usize, gate: Gate)
 /// Tells all nodes anew.
 pub(crate) fn tell(gates: &[Entry], nodes: &mut [Node])
     ensures len { length nodes.new ≡ length nodes.old }
-    ensures joined { (j : ℕ) → 0 < j → j < length nodes.new → IsJoined gates.now nodes.new j }
+    ensures joined { (j : ℕ) → 0 < j → j < length nodes.new → IsJoinedNode gates.now nodes.new j }
 {
     let mut node = nodes.len();
     'down: while node > 1 {

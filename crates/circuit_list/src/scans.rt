@@ -1,8 +1,8 @@
 //! Looks along the slots, one by one, for a circuit that isn't linked.
 
 ghost use Rattle.std.specs.Prelude.{◌≡◌, ◌+◌, ◌<◌, MatchOption, length, true};
-ghost use Rattle.circuit_list.specs.Entries.{entry, is_live, rank};
-ghost use Rattle.circuit_list.specs.Tree.{IsFirstOn, IsLastOn, NoneOn};
+ghost use Rattle.circuit_list.specs.Entries.{entry, is_live, slot_rank};
+ghost use Rattle.circuit_list.specs.Tree.{IsFirstSlotOn, IsLastOn, NoSlotOn};
 
 use crate::entry::Entry;
 use crate::nodes::{entry, leaf, meets};
@@ -10,7 +10,7 @@ use crate::nodes::{entry, leaf, meets};
 /// The number of gates in the slots before one.
 pub(crate) fn count_before(gates: &[Entry], slot: usize) -> usize
     requires within { slot < length gates.now }
-    ensures value { result ≡ rank gates.now slot }
+    ensures value { result ≡ slot_rank gates.now slot }
 {
     let _gates = gates.len();
     let mut count = 0;
@@ -22,9 +22,9 @@ pub(crate) fn count_before(gates: &[Entry], slot: usize) -> usize
 
 /// The slot with a gate, with so many gates in the slots before it.
 pub(crate) fn scan_to(gates: &[Entry], place: usize) -> usize
-    requires within { place < rank gates.now (length gates.now) }
+    requires within { place < slot_rank gates.now (length gates.now) }
     ensures live { is_live (entry gates.now result) ≡ true }
-    ensures rank { rank gates.now result ≡ place }
+    ensures rank { slot_rank gates.now result ≡ place }
 {
     let mut rest = place;
     'slots: for slot in 0..gates.len() {
@@ -41,7 +41,7 @@ pub(crate) fn scan_to(gates: &[Entry], place: usize) -> usize
 /// The first slot behind one with a gate on some wires.
 pub(crate) fn scan_behind(gates: &[Entry], slot: usize, wires: u64) -> Option<usize>
     requires within { slot < length gates.now }
-    ensures found { MatchOption result (NoneOn wires gates.now (slot + 1) (length gates.now)) (IsFirstOn wires gates.now (slot + 1)) }
+    ensures found { MatchOption result (NoSlotOn wires gates.now (slot + 1) (length gates.now)) (IsFirstSlotOn wires gates.now (slot + 1)) }
 {
     'slots: for next in slot + 1..gates.len() {
         if meets(gates[next], wires) {
@@ -54,7 +54,7 @@ pub(crate) fn scan_behind(gates: &[Entry], slot: usize, wires: u64) -> Option<us
 /// The last slot before one with a gate on some wires.
 pub(crate) fn scan_before(gates: &[Entry], slot: usize, wires: u64) -> Option<usize>
     requires within { slot < length gates.now }
-    ensures found { MatchOption result (NoneOn wires gates.now 0 slot) (IsLastOn wires gates.now slot) }
+    ensures found { MatchOption result (NoSlotOn wires gates.now 0 slot) (IsLastOn wires gates.now slot) }
 {
     let mut last = slot;
     'slots: while last > 0 {

@@ -3,9 +3,9 @@
 //! The slots answer the same with links and without: without them by a look along the slots.
 
 ghost use Rattle.std.specs.Prelude.{◌≡◌, ◌+◌, ◌^◌, ◌<◌, ◌≤◌, ◌++◌, ◌∷◌, [], length, IfOk, OnOk, OnErr, MatchOption, slice_set, Some, true};
-ghost use Rattle.circuit_list.specs.Entries.{entry, gates_of, is_live, rank};
+ghost use Rattle.circuit_list.specs.Entries.{entry, entry_gates, is_live, slot_rank};
 ghost use Rattle.circuit_list.specs.OnWire.{IsFirstGateOn, IsLastGateOn, NoGateOn};
-ghost use Rattle.circuit_list.specs.Tree.{IsFirstOn, IsLastOn, NoneOn, any_wire, leaf, wire_bit};
+ghost use Rattle.circuit_list.specs.Tree.{IsFirstSlotOn, IsLastOn, NoSlotOn, any_wire, leaf, wire_bit};
 
 use crate::Gate;
 use crate::entry::Entry;
@@ -31,14 +31,14 @@ pub(crate) struct Tree {
 impl Model for Tree {
     ghost use Rattle.std.specs.Prelude.{◌≡◌, IfSome, List, Option, length};
     ghost use Rattle.circuit_list.specs.declared.Gate.{Gate};
-    ghost use Rattle.circuit_list.specs.Entries.{rank};
+    ghost use Rattle.circuit_list.specs.Entries.{slot_rank};
     ghost use Rattle.circuit_list.specs.Links.{IsLinks};
 
     ghost Value = { List (Option Gate) };
 
     ghost view = { λ a. a.gates.items };
 
-    ghost invariant = { λ a. (a.count ≡ rank a.gates.items (length a.gates.items)) × IfSome a.links (IsLinks a.gates.items) };
+    ghost invariant = { λ a. (a.count ≡ slot_rank a.gates.items (length a.gates.items)) × IfSome a.links (IsLinks a.gates.items) };
 }
 
 impl Tree {
@@ -115,7 +115,7 @@ impl Tree {
 
     /// The number of gates.
     pub(crate) fn count(&self) -> usize
-        ensures value { result ≡ rank self.now (length self.now) }
+        ensures value { result ≡ slot_rank self.now (length self.now) }
     {
         self.count
     }
@@ -161,7 +161,7 @@ impl Tree {
     /// The number of gates in the slots before one, which is the slot itself where none is empty.
     pub(crate) fn rank(&self, slot: usize) -> usize
         requires within { slot < length self.now }
-        ensures value { result ≡ rank self.now slot }
+        ensures value { result ≡ slot_rank self.now slot }
     {
         if self.count() == self.entries().len() {
             return slot;
@@ -174,9 +174,9 @@ impl Tree {
 
     /// The slot with a gate, with so many gates in the slots before it.
     pub(crate) fn select(&self, place: usize) -> usize
-        requires within { place < rank self.now (length self.now) }
+        requires within { place < slot_rank self.now (length self.now) }
         ensures live { is_live (entry self.now result) ≡ true }
-        ensures rank { rank self.now result ≡ place }
+        ensures rank { slot_rank self.now result ≡ place }
     {
         if self.count() == self.entries().len() {
             return place;
@@ -190,7 +190,7 @@ impl Tree {
     /// The next slot with a gate behind a slot.
     pub(crate) fn next(&self, slot: usize) -> Option<usize>
         requires within { slot < length self.now }
-        ensures found { MatchOption result (NoneOn any_wire self.now (slot + 1) (length self.now)) (IsFirstOn any_wire self.now (slot + 1)) }
+        ensures found { MatchOption result (NoSlotOn any_wire self.now (slot + 1) (length self.now)) (IsFirstSlotOn any_wire self.now (slot + 1)) }
     {
         let _slots = self.gates.len();
         self.from(slot + 1)
@@ -199,7 +199,7 @@ impl Tree {
     /// The last slot with a gate before a slot.
     pub(crate) fn prev(&self, slot: usize) -> Option<usize>
         requires within { slot < length self.now }
-        ensures found { MatchOption result (NoneOn any_wire self.now 0 slot) (IsLastOn any_wire self.now slot) }
+        ensures found { MatchOption result (NoSlotOn any_wire self.now 0 slot) (IsLastOn any_wire self.now slot) }
     {
         if slot > 0 && entry(&self.gates, slot - 1).is_some() {
             return Some(slot - 1);
@@ -209,7 +209,7 @@ impl Tree {
 
     /// The first slot with a gate that isn't before a slot.
     pub(crate) fn from(&self, slot: usize) -> Option<usize>
-        ensures found { MatchOption result (NoneOn any_wire self.now slot (length self.now)) (IsFirstOn any_wire self.now slot) }
+        ensures found { MatchOption result (NoSlotOn any_wire self.now slot (length self.now)) (IsFirstSlotOn any_wire self.now slot) }
     {
         if slot >= self.gates.len() {
             return None;
@@ -254,7 +254,7 @@ impl Tree {
     /// The next slot behind one whose gate has the bit of the wire.
     fn next_marked(&self, slot: usize, wire: u32) -> Option<usize>
         requires { slot < length self.now }
-        ensures { MatchOption result (NoneOn (wire_bit wire) self.now (slot + 1) (length self.now)) (IsFirstOn (wire_bit wire) self.now (slot + 1)) }
+        ensures { MatchOption result (NoSlotOn (wire_bit wire) self.now (slot + 1) (length self.now)) (IsFirstSlotOn (wire_bit wire) self.now (slot + 1)) }
     {
         if let Some(links) = &self.links {
             let near = near_behind(&links.marks, slot, wire);
@@ -268,7 +268,7 @@ impl Tree {
     /// The last slot before one whose gate has the bit of the wire.
     fn prev_marked(&self, slot: usize, wire: u32) -> Option<usize>
         requires { slot < length self.now }
-        ensures { MatchOption result (NoneOn (wire_bit wire) self.now 0 slot) (IsLastOn (wire_bit wire) self.now slot) }
+        ensures { MatchOption result (NoSlotOn (wire_bit wire) self.now 0 slot) (IsLastOn (wire_bit wire) self.now slot) }
     {
         if let Some(links) = &self.links {
             let near = near_before(&links.marks, slot, wire);
@@ -282,7 +282,7 @@ impl Tree {
     /// The first slot behind one with a gate on some wires.
     fn first_behind(&self, slot: usize, wires: u64) -> Option<usize>
         requires { slot < length self.now }
-        ensures { MatchOption result (NoneOn wires self.now (slot + 1) (length self.now)) (IsFirstOn wires self.now (slot + 1)) }
+        ensures { MatchOption result (NoSlotOn wires self.now (slot + 1) (length self.now)) (IsFirstSlotOn wires self.now (slot + 1)) }
     {
         match &self.links {
             Some(links) => first_behind(&self.gates, &links.nodes, slot, wires),
@@ -293,7 +293,7 @@ impl Tree {
     /// The last slot before one with a gate on some wires.
     fn last_before(&self, slot: usize, wires: u64) -> Option<usize>
         requires { slot < length self.now }
-        ensures { MatchOption result (NoneOn wires self.now 0 slot) (IsLastOn wires self.now slot) }
+        ensures { MatchOption result (NoSlotOn wires self.now 0 slot) (IsLastOn wires self.now slot) }
     {
         match &self.links {
             Some(links) => last_before(&self.gates, &links.nodes, slot, wires),
@@ -303,7 +303,7 @@ impl Tree {
 
     /// Drops the empty slots. After want of memory the slots are as they were.
     pub(crate) fn compact(&mut self) -> Result<(), AllocError>
-        ensures ok { gates_of self.new ≡ gates_of self.old }
+        ensures ok { entry_gates self.new ≡ entry_gates self.old }
         ensures err { OnErr result (self.new ≡ self.old) }
     {
         if self.count() == self.entries().len() {
@@ -345,7 +345,7 @@ fn recounted(count: usize, before: Entry, after: Entry) -> usize
 
 /// The slots with gates alone.
 pub(crate) fn live(alloc: Global, entries: &[Entry]) -> Result<Vec<Entry>, AllocError>
-    ensures { IfOk result (λ v. gates_of v.items ≡ gates_of entries.now) }
+    ensures { IfOk result (λ v. entry_gates v.items ≡ entry_gates entries.now) }
 {
     let mut kept = Vec::new(alloc);
     'slots: for entry in entries {

@@ -4,8 +4,8 @@
 //! steps as the logarithm of the distance.
 
 ghost use Rattle.std.specs.Prelude.{◌≡◌, ℕ, ◌+◌, ◌^◌, ◌<◌, MatchOption, length, true};
-ghost use Rattle.circuit_list.specs.Entries.{entry, is_live, rank};
-ghost use Rattle.circuit_list.specs.Tree.{Covers, IsFirstOn, IsLastOn, IsTree, NoneOn, has_any, node_at};
+ghost use Rattle.circuit_list.specs.Entries.{entry, is_live, slot_rank};
+ghost use Rattle.circuit_list.specs.Tree.{CoversSlots, IsFirstSlotOn, IsLastOn, IsTree, NoSlotOn, has_any, node_at};
 
 use crate::entry::Entry;
 use crate::nodes::{Node, has_any, node_at};
@@ -14,7 +14,7 @@ use crate::nodes::{Node, has_any, node_at};
 pub(crate) fn rank_of(gates: &[Entry], nodes: &[Node], slot: usize) -> usize
     requires tree { (h : ℕ) × IsTree h gates.now nodes.now }
     requires within { slot < length nodes.now }
-    ensures value { result ≡ rank gates.now slot }
+    ensures value { result ≡ slot_rank gates.now slot }
 {
     let _gates = gates.len();
     let mut count = 0;
@@ -33,7 +33,7 @@ pub(crate) fn slot_at(gates: &[Entry], nodes: &[Node], place: usize) -> usize
     requires tree { (h : ℕ) × IsTree h gates.now nodes.now }
     requires there { place < (node_at gates.now nodes.now 1).count }
     ensures live { is_live (entry gates.now result) ≡ true }
-    ensures rank { rank gates.now result ≡ place }
+    ensures rank { slot_rank gates.now result ≡ place }
 {
     let _gates = gates.len();
     let len = nodes.len();
@@ -52,9 +52,9 @@ pub(crate) fn slot_at(gates: &[Entry], nodes: &[Node], place: usize) -> usize
 
 /// The first slot below a node with a gate on some wires.
 fn first_in(gates: &[Entry], nodes: &[Node], top: usize, wires: u64) -> usize
-    requires covers { (h lo : ℕ) × Covers gates.now nodes.now h top lo }
+    requires covers { (h lo : ℕ) × CoversSlots gates.now nodes.now h top lo }
     requires on { has_any wires (node_at gates.now nodes.now top).wires ≡ true }
-    ensures { (h lo : ℕ) → Covers gates.now nodes.now h top lo → IsFirstOn wires gates.now lo result }
+    ensures { (h lo : ℕ) → CoversSlots gates.now nodes.now h top lo → IsFirstSlotOn wires gates.now lo result }
 {
     let len = nodes.len();
     let mut node = top;
@@ -69,9 +69,9 @@ fn first_in(gates: &[Entry], nodes: &[Node], top: usize, wires: u64) -> usize
 
 /// The last slot below a node with a gate on some wires.
 fn last_in(gates: &[Entry], nodes: &[Node], top: usize, wires: u64) -> usize
-    requires covers { (h lo : ℕ) × Covers gates.now nodes.now h top lo }
+    requires covers { (h lo : ℕ) × CoversSlots gates.now nodes.now h top lo }
     requires on { has_any wires (node_at gates.now nodes.now top).wires ≡ true }
-    ensures { (h lo : ℕ) → Covers gates.now nodes.now h top lo → IsLastOn wires gates.now (lo + 2 ^ h) result }
+    ensures { (h lo : ℕ) → CoversSlots gates.now nodes.now h top lo → IsLastOn wires gates.now (lo + 2 ^ h) result }
 {
     let len = nodes.len();
     let mut node = top;
@@ -93,7 +93,7 @@ pub(crate) fn first_behind(
 ) -> Option<usize>
     requires tree { (h : ℕ) × IsTree h gates.now nodes.now }
     requires within { slot < length nodes.now }
-    ensures found { MatchOption result (NoneOn wires gates.now (slot + 1) (length nodes.now)) (IsFirstOn wires gates.now (slot + 1)) }
+    ensures found { MatchOption result (NoSlotOn wires gates.now (slot + 1) (length nodes.now)) (IsFirstSlotOn wires gates.now (slot + 1)) }
 {
     let mut node = nodes.len() + slot;
     'up: while node > 1 {
@@ -109,7 +109,7 @@ pub(crate) fn first_behind(
 pub(crate) fn last_before(gates: &[Entry], nodes: &[Node], slot: usize, wires: u64) -> Option<usize>
     requires tree { (h : ℕ) × IsTree h gates.now nodes.now }
     requires within { slot < length nodes.now }
-    ensures found { MatchOption result (NoneOn wires gates.now 0 slot) (IsLastOn wires gates.now slot) }
+    ensures found { MatchOption result (NoSlotOn wires gates.now 0 slot) (IsLastOn wires gates.now slot) }
 {
     let mut node = nodes.len() + slot;
     'up: while node > 1 {

@@ -13,7 +13,7 @@ use Rattle.std.proofs.lemmas.Option.{get_or_from_slice_get, slice_get_within}
 use Rattle.circuit_list.specs.declared.Gate.{Gate}
 use Rattle.circuit_list.specs.declared.Gate.TheVariants.{H, X, P, Cx}
 use Rattle.circuit_list.specs.Gates.{op_of, ops}
-use Rattle.coupling_map.specs.Coupling.{Coupling, format_of}
+use Rattle.coupling_map.specs.Coupling.{Coupling, format_by_costs}
 use Rattle.coupling_map.specs.Costs.{most_cost}
 use Rattle.coupling_map.specs.Edges.{FollowsEdge, FollowsEdges}
 use Rattle.coupling_map.specs.Walks.{is_edge, is_near}
@@ -56,11 +56,11 @@ pub one-limited : (g : Gate) (c t r : ℕ) → g ≡ Cx c t → r ≤ most_cost 
 unfolding most_cost
 one-limited g c t r e h = rw e h
 
-pub told-listed : (o : Option (List ℕ)) (k : ℕ) → format_of o ≡ 2 → Some k ≡ told_by o k
+pub told-listed : (o : Option (List ℕ)) (k : ℕ) → format_by_costs o ≡ 2 → Some k ≡ told_by o k
 told-listed None k e = absurd (omega (arith, e))
 told-listed (Some cs) k e = refl
 
-pub told-unlisted : (o : Option (List ℕ)) (k : ℕ) → (format_of o ≡ 2 → ⊥) → None ≡ told_by o k
+pub told-unlisted : (o : Option (List ℕ)) (k : ℕ) → (format_by_costs o ≡ 2 → ⊥) → None ≡ told_by o k
 told-unlisted None k e = refl
 told-unlisted (Some cs) k e = absurd (e refl)
 

@@ -14,7 +14,7 @@ use Rattle.std.proofs.lemmas.List.Elements.{All-append, All-from_recursion, All-
 use Rattle.circuit_list.specs.declared.Gate.{Gate}
 use Rattle.circuit_list.specs.Gates.{IsFine, ops}
 use Rattle.gate_inline.specs.Programs.{Program}
-use Rattle.gate_inline.specs.Splits.{IsBar}
+use Rattle.gate_inline.specs.Splits.{IsBarrier}
 use Rattle.program_parts.specs.Cuts.{IsCut, whole}
 use Rattle.program_parts.specs.Parts.{AreRealised, Part}
 use Rattle.program_parts.proofs.CutLaws.{length-whole}
@@ -22,7 +22,7 @@ use Rattle.trace_text.specs.Texts.{ended, lines_of}
 use Rattle.unitary_model.specs.declared.Op.{Op}
 use Rattle.unitary_model.specs.Operations.{cx_count}
 use Rattle.unitary_model.specs.Placement.{IsPlacement}
-use Rattle.circuit_target.specs.InParts.{HasFewTs, placed_bars}
+use Rattle.circuit_target.specs.InParts.{HasFewTs, placed_barriers}
 use Rattle.circuit_target.specs.Targets.{IsFit}
 use Rattle.circuit_target.specs.Making.{IsAssembled, last_of, parts_of}
 use Rattle.circuit_target.specs.declared.parts.PartTarget.{PartTarget}
@@ -48,7 +48,7 @@ pub record IsPlacedBar (size : ℕ) (qs : List ℕ) : Type 0 where
   pub some : qs ≡ [] → ⊥
   pub there : All (λ q. q < size) qs
 
-bar-placed : (n size : ℕ) (p ws : List ℕ) → IsPlacement size p → n ≤ size → IsBar n ws → IsPlacedBar size (map (slice_index p) ws)
+bar-placed : (n size : ℕ) (p ws : List ℕ) → IsPlacement size p → n ≤ size → IsBarrier n ws → IsPlacedBar size (map (slice_index p) ws)
 bar-placed n size p ws is fits bar =
     let all = weaken ws (λ w h. wider w h) (recursion_from_All (λ w. w < n) ws bar.there) in
     record {
@@ -64,7 +64,7 @@ bar-placed n size p ws is fits bar =
     none (v ∷ vs) some e = cc
 
 pub bars-placed : (n size : ℕ) (parts : List Part) (bars : List (List ℕ)) → n ≤ size → AllByRecursion (λ (p : Part). IsPlacement size p.last) parts
-    → AllByRecursion (IsBar n) bars → AllByRecursion (IsPlacedBar size) (placed_bars parts bars)
+    → AllByRecursion (IsBarrier n) bars → AllByRecursion (IsPlacedBar size) (placed_barriers parts bars)
 bars-placed n size [] bars fits is h = tt
 bars-placed n size (p ∷ parts) [] fits is h = tt
 bars-placed n size (p ∷ parts) (ws ∷ bars) fits is h = (bar-placed n size p.last ws is.0 fits h.0, bars-placed n size parts bars fits is.1 h.1)
@@ -83,12 +83,12 @@ few-bars s ms vs i cut named many lt =
     (omega (arith, same, lt), omega (arith, same, cut, many, lt))
 
 pub bar-asked : (s : Program) (ms : List PartTarget) (vs : List (Vec ℕ Global)) (v : Vec ℕ Global) (i : ℕ) (m : PartTarget) (bar last : List ℕ) → IsCut s.cut
-    → All (IsBar s.wires) s.cut.bars → map (λ v. v.items) vs ≡ s.cut.bars → length ms ≡ length s.cut.parts → All (λ m. s.wires ≤ length m.last) ms
+    → All (IsBarrier s.wires) s.cut.bars → map (λ v. v.items) vs ≡ s.cut.bars → length ms ≡ length s.cut.parts → All (λ m. s.wires ≤ length m.last) ms
     → i < length vs → v ≡ get_or vs i v → m ≡ get_or ms i m → bar ≡ v.items → last ≡ m.last → All (λ w. w < length last) bar
 bar-asked s ms vs v i m bar last cut bars named many placed lt is at same stands =
     let few = few-bars s ms vs i cut named many lt in
     let here : v.items ≡ get_or s.cut.bars i v.items = mapped_at vs i v lt is ∙ ap (λ (xs : List (List ℕ)). get_or xs i v.items) named in
-    let of : IsBar s.wires v.items = at_place (IsBar s.wires) s.cut.bars i v.items bars few.0 here in
+    let of : IsBarrier s.wires v.items = at_place (IsBarrier s.wires) s.cut.bars i v.items bars few.0 here in
     let fits : s.wires ≤ length m.last = at_place (λ m. s.wires ≤ length m.last) ms i m placed few.1 at in
     let wide : s.wires ≤ length last = omega (arith, fits, ap length stands) in
     subst (All (λ w. w < length last)) (sym same) (All-from_recursion (λ w. w < length last) v.items
@@ -100,8 +100,8 @@ bar-asked s ms vs v i m bar last cut bars named many placed lt is at same stands
 pub bar-placed_next : (s : Program) (ms : List PartTarget) (vs : List (Vec ℕ Global)) (v : Vec ℕ Global) (i : ℕ) (m : PartTarget) (bar last : List ℕ)
     (old new : List (Vec ℕ Global)) (put : Vec ℕ Global) → IsCut s.cut → map (λ v. v.items) vs ≡ s.cut.bars → length ms ≡ length s.cut.parts
     → i < length vs → v ≡ get_or vs i v → m ≡ get_or ms i m → bar ≡ v.items → last ≡ m.last → new ≡ old ++ put ∷ [] → put.items ≡ map (slice_index last) bar
-    → map (λ b. b.items) old ≡ take i (placed_bars (parts_of s.cut.parts ms) s.cut.bars)
-    → map (λ b. b.items) new ≡ take (i + 1) (placed_bars (parts_of s.cut.parts ms) s.cut.bars)
+    → map (λ b. b.items) old ≡ take i (placed_barriers (parts_of s.cut.parts ms) s.cut.bars)
+    → map (λ b. b.items) new ≡ take (i + 1) (placed_barriers (parts_of s.cut.parts ms) s.cut.bars)
 bar-placed_next s ms vs v i m bar last old new put cut named many lt is at same stands more placed before =
     let few = few-bars s ms vs i cut named many lt in
     let here : v.items ≡ get_or s.cut.bars i v.items = mapped_at vs i v lt is ∙ ap (λ (xs : List (List ℕ)). get_or xs i v.items) named in
@@ -114,7 +114,7 @@ placements : (n size : ℕ) (first : List ℕ) (parts : List Part) → AreRealis
 placements n size first [] h = tt
 placements n size first (p ∷ parts) h = (h.0.ends, placements n size p.last parts h.1)
 
-length-bars : (parts : List Part) (bars : List (List ℕ)) → length bars ≤ length parts → length (placed_bars parts bars) ≡ length bars
+length-bars : (parts : List Part) (bars : List (List ℕ)) → length bars ≤ length parts → length (placed_barriers parts bars) ≡ length bars
 length-bars [] [] le = refl
 length-bars [] (ws ∷ bars) le = absurd (omega (arith, le))
 length-bars (p ∷ parts) [] le = refl
@@ -130,14 +130,14 @@ lengths-map [] = refl
 lengths-map (m ∷ ms) = ap (λ (ns : List ℕ). length m.body.gates ∷ ns) (lengths-map ms)
 
 -- ---- the target
-placed-all : (keep : Bool) (s : Program) (ms : List PartTarget) (t : Target) → All (IsBar s.wires) s.cut.bars
+placed-all : (keep : Bool) (s : Program) (ms : List PartTarget) (t : Target) → All (IsBarrier s.wires) s.cut.bars
     → AreRealised s.wires t.body.wires t.initial (parts_of s.cut.parts ms) → s.wires ≤ t.body.wires
-    → AllByRecursion (IsPlacedBar t.body.wires) (placed_bars (parts_of s.cut.parts ms) s.cut.bars)
+    → AllByRecursion (IsPlacedBar t.body.wires) (placed_barriers (parts_of s.cut.parts ms) s.cut.bars)
 placed-all keep s ms t bars realised fits =
     bars-placed s.wires t.body.wires (parts_of s.cut.parts ms) s.cut.bars fits (placements s.wires t.body.wires t.initial (parts_of s.cut.parts ms) realised)
-    (recursion_from_All (IsBar s.wires) s.cut.bars bars)
+    (recursion_from_All (IsBarrier s.wires) s.cut.bars bars)
 
-pub IsFit-parts : (keep : Bool) (s : Program) (ms : List PartTarget) (t : Target) → IsCut s.cut → All (IsBar s.wires) s.cut.bars → IsAssembled keep s ms t
+pub IsFit-parts : (keep : Bool) (s : Program) (ms : List PartTarget) (t : Target) → IsCut s.cut → All (IsBarrier s.wires) s.cut.bars → IsAssembled keep s ms t
     → length s.cut.parts ≡ length ms → AreRealised s.wires t.body.wires t.initial (parts_of s.cut.parts ms) → s.wires ≤ t.body.wires
     → length t.last ≡ t.body.wires → ended (lines_of t.trace.items) ≡ t.trace.items → IsFit s t
 IsFit-parts keep s ms t cut bars a many realised fits long trace =
@@ -165,7 +165,7 @@ IsFit-parts keep s ms t cut bars a many realised fits long trace =
     }
 
 pub IsPutTogether-parts : (keep : Bool) (s : Program) (ms : List PartTarget) (t : Target) → IsCut s.cut → whole s.cut.parts ≡ s.ops
-    → All (IsBar s.wires) s.cut.bars → IsAssembled keep s ms t → length s.cut.parts ≡ length ms
+    → All (IsBarrier s.wires) s.cut.bars → IsAssembled keep s ms t → length s.cut.parts ≡ length ms
     → AllByRecursion (λ m. All (IsFine t.body.wires) m.body.gates) ms → AreRealised s.wires t.body.wires t.initial (parts_of s.cut.parts ms)
     → s.wires ≤ t.body.wires → t.last ≡ last_of t.initial ms → AllByRecursion (HasFewTs s.wires) (parts_of s.cut.parts ms)
     → cx_count (ops t.body.gates) ≤ cx_count s.ops + 3 * t.swaps → IsPutTogether keep s ms t

@@ -23,14 +23,14 @@ use Rattle.coupling_map.specs.Walks.{IsDiameter}
 use Rattle.gate_expand.specs.Expansion.{IsFineOp}
 use Rattle.gate_inline.specs.Programs.{Program}
 use Rattle.gate_inline.specs.Sizes.{most_operations}
-use Rattle.gate_inline.specs.Splits.{IsBar}
+use Rattle.gate_inline.specs.Splits.{IsBarrier}
 use Rattle.program_parts.specs.Cuts.{IsCut, uncut, whole}
 use Rattle.program_parts.specs.Parts.{AreRealised, sources}
 use Rattle.rewrite_pass.specs.Traces.{Step}
 use Rattle.route_report.specs.declared.lines.Report.{Report}
 use Rattle.routed_parts.proofs.LegLaws.{AreRealised-legs, FollowsEdges-legs, cx-legs, few-swaps, t_gates-legs}
 use Rattle.routed_parts.proofs.StillLaws.{AreRealised-still, cx-still, ends-still}
-use Rattle.sabre_route.specs.Measures.{bound, bound_by}
+use Rattle.sabre_route.specs.Measures.{swap_bound, bound_by}
 use Rattle.sabre_route.specs.Ahead.{Ahead}
 use Rattle.sabre_route.specs.declared.router.Routed.{Routed}
 use Rattle.trace_text.specs.Texts.{ended, lines_of}
@@ -44,7 +44,7 @@ use Rattle.routed_parts.specs.Tries.{ahead_of}
 use Rattle.wire_starts.specs.declared.Starts.{Starts}
 use Rattle.circuit_target.specs.Standing.{IsInPlace, IsOnQubits, IsOwnTrace}
 use Rattle.circuit_target.specs.Targets.{IsFit, Stands, target_program, HasSteps, IsOptimised, IsTold}
-use Rattle.circuit_target.specs.Making.{AreRoutedParts, AreTraced, AreWritten, IsAssembled, IsOnSize, IsPlacedPart, IsRoutedPart, IsRunTrace, are_told, gates_of, last_of, parts_of, turns_of}
+use Rattle.circuit_target.specs.Making.{AreRoutedParts, AreTraced, AreWritten, IsAssembled, IsOnSize, IsPlacedPart, IsRoutedPart, IsRunTrace, are_told, part_gates, last_of, parts_of, turns_of}
 use Rattle.circuit_target.specs.declared.parts.PartTarget.{PartTarget}
 use Rattle.circuit_target.specs.declared.passes.Rewritten.{Rewritten}
 use Rattle.circuit_target.specs.declared.target.Target.{Target}
@@ -72,7 +72,7 @@ each-routed P d clean given ws ms f h = each given ws h.routed ms h.parts
     each given [] [] (m ∷ ms) is = absurd is
     each given [] (r ∷ rs) (m ∷ ms) is = absurd is
     each given (w ∷ ws) [] (m ∷ ms) is = absurd is
-    each given (w ∷ ws) (r ∷ rs) (m ∷ ms) is = (f (ahead_of h.along (whole (gates_of ws))) given w r m is.0, each r.last ws rs ms is.1)
+    each given (w ∷ ws) (r ∷ rs) (m ∷ ms) is = (f (ahead_of h.along (whole (part_gates ws))) given w r m is.0, each r.last ws rs ms is.1)
 
 -- ---- the trace
 trace-of_part : (d : Coupling) (n : ℕ) (S : List Op) (o : Option (List Step)) (c : Passed) (given : List ℕ) (m : PartTarget) (s t : Program) (told : Report)
@@ -125,7 +125,7 @@ IsOwnTrace-parts d clean s (q ∷ rs) ms t told o steps (inr none) routed traced
     subst (λ b. IsOwnTrace b s (target_program s t) told t.trace.items) (sym (ap is_some (All-head (λ r. r.steps ≡ None) q rs none))) (silent none)
 
 -- ---- on its own wires
-still-together : (keep : Bool) (s : Program) (ms : List PartTarget) (t : Target) → IsCut s.cut → whole s.cut.parts ≡ s.ops → All (IsBar s.wires) s.cut.bars
+still-together : (keep : Bool) (s : Program) (ms : List PartTarget) (t : Target) → IsCut s.cut → whole s.cut.parts ≡ s.ops → All (IsBarrier s.wires) s.cut.bars
     → IsAssembled keep s ms t → AllZip (IsPlacedPart s.wires) s.cut.parts ms → t.body.wires ≡ s.wires → t.initial ≡ identity s.wires
     → t.last ≡ identity s.wires → IsPutTogether keep s ms t
 still-together keep s ms t cut all bars a placed wires initial last =
@@ -142,14 +142,14 @@ still-together keep s ms t cut all bars a placed wires initial last =
     (weaken parts (λ p h. h.t_gates) still)
     (omega (arith, few, ap cx_count (targets-target s ms t many a.gates), ap cx_count (sources-source s ms many all)))
 
-pub Stands-placed : (keep : Bool) (s : Program) (ms : List PartTarget) (t : Target) → IsCut s.cut → whole s.cut.parts ≡ s.ops → All (IsBar s.wires) s.cut.bars
+pub Stands-placed : (keep : Bool) (s : Program) (ms : List PartTarget) (t : Target) → IsCut s.cut → whole s.cut.parts ≡ s.ops → All (IsBarrier s.wires) s.cut.bars
     → IsAssembled keep s ms t → AllZip (IsPlacedPart s.wires) s.cut.parts ms → t.body.wires ≡ s.wires → t.swaps ≡ 0 → t.initial ≡ identity s.wires
     → t.last ≡ identity s.wires → t.cost ≡ None → t.trace.items ≡ [] → t.spares ≡ None → Stands s keep false (IsInPlace s) t
 Stands-placed keep s ms t cut all bars a placed wires swaps initial last cost trace alone =
     Stands-still keep s ms t (still-together keep s ms t cut all bars a placed wires initial last) (AreStill-placed s.wires s.cut.parts ms placed) wires swaps
     initial last cost trace alone
 
-pub IsFit-placed : (keep : Bool) (s : Program) (ms : List PartTarget) (t : Target) → IsCut s.cut → whole s.cut.parts ≡ s.ops → All (IsBar s.wires) s.cut.bars
+pub IsFit-placed : (keep : Bool) (s : Program) (ms : List PartTarget) (t : Target) → IsCut s.cut → whole s.cut.parts ≡ s.ops → All (IsBarrier s.wires) s.cut.bars
     → IsAssembled keep s ms t → AllZip (IsPlacedPart s.wires) s.cut.parts ms → t.body.wires ≡ s.wires → t.initial ≡ identity s.wires
     → t.last ≡ identity s.wires → t.trace.items ≡ [] → IsFit s t
 IsFit-placed keep s ms t cut all bars a placed wires initial last trace =
@@ -221,22 +221,22 @@ as-many d clean s first rs ms o routed =
     sym (AllZip-long (λ us r. IsOptimised s.wires us r.passed) s.cut.parts rs o) ∙ AreRouted-long d clean first rs ms routed
 
 legs-together : (keep clean : Bool) (d : Coupling) (s : Program) (rs : List Rewritten) (ms : List PartTarget) (t : Target) → IsCut s.cut
-    → whole s.cut.parts ≡ s.ops → All (IsBar s.wires) s.cut.bars → IsAssembled keep s ms t → AllZip (λ us r. IsOptimised s.wires us r.passed) s.cut.parts rs
+    → whole s.cut.parts ≡ s.ops → All (IsBarrier s.wires) s.cut.bars → IsAssembled keep s ms t → AllZip (λ us r. IsOptimised s.wires us r.passed) s.cut.parts rs
     → AreWritten d clean t.initial rs ms → s.wires ≤ d.size → t.body.wires ≡ d.size → t.last ≡ last_of t.initial ms
     → t.swaps ≡ sum_by (λ (m : PartTarget). m.swaps) ms → IsPutTogether keep s ms t
 legs-together keep clean d s rs ms t cut all bars a o routed fits wires last swaps =
     let parts = parts_of s.cut.parts ms in
     let legs = AreLegs-routed d clean s.wires t.initial s.cut.parts rs ms fits o routed in
     let many = as-many d clean s t.initial rs ms o routed in
-    let cx = cx-legs d clean s.wires t.initial parts (gates_of rs) routed.routed legs in
+    let cx = cx-legs d clean s.wires t.initial parts (part_gates rs) routed.routed legs in
     IsPutTogether-parts keep s ms t cut all bars a many
     (each-routed (λ m. All (IsFine t.body.wires) m.body.gates) d clean t.initial rs ms (λ ahead given w r m h. subst (λ (k : ℕ). All (IsFine k) m.body.gates) (sym wires) h.fine) routed)
-    (subst (λ (k : ℕ). AreRealised s.wires k t.initial parts) (sym wires) (AreRealised-legs d clean s.wires t.initial parts (gates_of rs) routed.routed legs))
-    (omega (arith, fits, wires)) last (t_gates-legs d clean s.wires t.initial parts (gates_of rs) routed.routed legs)
+    (subst (λ (k : ℕ). AreRealised s.wires k t.initial parts) (sym wires) (AreRealised-legs d clean s.wires t.initial parts (part_gates rs) routed.routed legs))
+    (omega (arith, fits, wires)) last (t_gates-legs d clean s.wires t.initial parts (part_gates rs) routed.routed legs)
     (omega (arith, cx, swaps, parts-swaps s.cut.parts ms many, ap cx_count (targets-target s ms t many a.gates), ap cx_count (sources-source s ms many all)))
 
 pub Stands-routed : (keep clean : Bool) (starts : Starts) (d : Coupling) (s : Program) (rs : List Rewritten) (ms : List PartTarget) (t : Target) → IsCut s.cut
-    → whole s.cut.parts ≡ s.ops → All (IsBar s.wires) s.cut.bars → IsAssembled keep s ms t → AllZip (λ us r. IsOptimised s.wires us r.passed) s.cut.parts rs
+    → whole s.cut.parts ≡ s.ops → All (IsBarrier s.wires) s.cut.bars → IsAssembled keep s ms t → AllZip (λ us r. IsOptimised s.wires us r.passed) s.cut.parts rs
     → AllZip (λ us r. IfSome r.steps (HasSteps s.wires us r.passed)) s.cut.parts rs
     → (s.cut ≡ uncut s.ops) × (clean ≡ false) ⊎ All (λ r. r.steps ≡ None) rs → IsRoute d starts clean rs t.initial ms → s.wires ≤ d.size
     → t.body.wires ≡ d.size → t.last ≡ last_of t.initial ms → t.swaps ≡ sum_by (λ (m : PartTarget). m.swaps) ms
@@ -247,13 +247,13 @@ pub Stands-routed : (keep clean : Bool) (starts : Starts) (d : Coupling) (s : Pr
 Stands-routed keep clean starts d s rs ms t cut all bars a o steps which route fits wires last swaps k diameter cost traced silent few fine alone =
     let routed = route.written in
     let taken = route.begun routed.routed (AreRouted-parts d routed.along clean t.initial rs routed.routed ms routed.parts) in
-    Stands-legs keep (are_told rs) clean starts d s ms (gates_of rs) routed.routed t
+    Stands-legs keep (are_told rs) clean starts d s ms (part_gates rs) routed.routed t
     (legs-together keep clean d s rs ms t cut all bars a o routed fits wires last swaps)
     (AreLegs-routed d clean s.wires t.initial s.cut.parts rs ms fits o routed) wires swaps taken k diameter cost
     (λ told r. IsOwnTrace-parts d clean s rs ms t told o steps which routed traced silent few fine a.gates wires last a.turn r) alone
 
 pub IsFit-routed : (keep clean : Bool) (d : Coupling) (s : Program) (rs : List Rewritten) (ms : List PartTarget) (t : Target) → IsCut s.cut
-    → whole s.cut.parts ≡ s.ops → All (IsBar s.wires) s.cut.bars → IsAssembled keep s ms t → AllZip (λ us r. IsOptimised s.wires us r.passed) s.cut.parts rs
+    → whole s.cut.parts ≡ s.ops → All (IsBarrier s.wires) s.cut.bars → IsAssembled keep s ms t → AllZip (λ us r. IsOptimised s.wires us r.passed) s.cut.parts rs
     → AreWritten d clean t.initial rs ms → s.wires ≤ d.size → t.body.wires ≡ d.size → t.last ≡ last_of t.initial ms
     → t.swaps ≡ sum_by (λ (m : PartTarget). m.swaps) ms → length t.initial ≡ d.size → ended (lines_of t.trace.items) ≡ t.trace.items → IsFit s t
 IsFit-routed keep clean d s rs ms t cut all bars a o routed fits wires last swaps long lines =
@@ -282,8 +282,8 @@ few-routed clean d s first rs ms k all o routed fits diameter short size few =
     let cx = few_cx s.ops in
     let n = cx_count (sources parts) in
     let same : n ≡ cx_count s.ops = ap cx_count (sources-source s ms many all) in
-    let is = few-swaps d clean s.wires first parts (gates_of rs) routed.routed k legs diameter in
-    let most : n * bound d k ≤ 65536 * 512 = mul-le n (bound d k) 65536 512 (omega (arith, same, cx, few)) (bound-few d.costs d.size k size short) in
+    let is = few-swaps d clean s.wires first parts (part_gates rs) routed.routed k legs diameter in
+    let most : n * swap_bound d k ≤ 65536 * 512 = mul-le n (swap_bound d k) 65536 512 (omega (arith, same, cx, few)) (bound-few d.costs d.size k size short) in
     omega (arith, is, most, parts-swaps s.cut.parts ms many)
 
 pub swaps-few : (clean : Bool) (d : Coupling) (s : Program) (first : List ℕ) (rs : List Rewritten) (ms : List PartTarget) (k : ℕ) → whole s.cut.parts ≡ s.ops
@@ -300,7 +300,7 @@ pub edges-followed : (clean : Bool) (d : Coupling) (s : Program) (first : List �
 edges-followed clean d s first rs ms gs o routed fits gates =
     let parts = parts_of s.cut.parts ms in
     subst (FollowsEdges d.edges) (targets-gates s ms gs (as-many d clean s first rs ms o routed) gates)
-    (FollowsEdges-legs d clean s.wires first parts (gates_of rs) routed.routed (AreLegs-routed d clean s.wires first s.cut.parts rs ms fits o routed))
+    (FollowsEdges-legs d clean s.wires first parts (part_gates rs) routed.routed (AreLegs-routed d clean s.wires first s.cut.parts rs ms fits o routed))
 
 pub cost-few : (clean : Bool) (d : Coupling) (s : Program) (first : List ℕ) (rs : List Rewritten) (ms : List PartTarget) (gs : List Gate) (k : ℕ)
     → whole s.cut.parts ≡ s.ops → AllZip (λ us r. IsOptimised s.wires us r.passed) s.cut.parts rs → AreWritten d clean first rs ms → s.wires ≤ d.size
@@ -312,7 +312,7 @@ cost-few clean d s first rs ms gs k all o routed fits diameter short size few ga
     let legs = AreLegs-routed d clean s.wires first s.cut.parts rs ms fits o routed in
     let cx = few_cx s.ops in
     let most = few-routed clean d s first rs ms k all o routed fits diameter short size few in
-    let is = cx-legs d clean s.wires first parts (gates_of rs) routed.routed legs in
+    let is = cx-legs d clean s.wires first parts (part_gates rs) routed.routed legs in
     omega (
       arith,
       is,

@@ -24,8 +24,8 @@ use Rattle.sabre_route.specs.declared.router.Routed.{Routed}
 use Rattle.unitary_model.specs.declared.Op.{Op}
 use Rattle.program_parts.specs.Cuts.{Cut, IsCut, whole}
 use Rattle.program_parts.proofs.CutLaws.{whole-append, whole-one}
-use Rattle.circuit_target.specs.InParts.{between, placed_bars}
-use Rattle.circuit_target.specs.Making.{AreRoutedParts, AreTraced, AreWritten, IsTraceOf, are_told, gates_of, last_of, lasts_but_one, part_of, parts_of, turns_of}
+use Rattle.circuit_target.specs.InParts.{between, placed_barriers}
+use Rattle.circuit_target.specs.Making.{AreRoutedParts, AreTraced, AreWritten, IsTraceOf, are_told, part_gates, last_of, lasts_but_one, part_of, parts_of, turns_of}
 use Rattle.circuit_target.specs.Targets.{IsOptimised}
 use Rattle.circuit_target.specs.declared.parts.PartTarget.{PartTarget}
 use Rattle.circuit_target.specs.declared.passes.Rewritten.{Rewritten}
@@ -111,7 +111,7 @@ whole-more ms k m lt is =
 
 pub placed-more : (uss : List (List Op)) (ms : List PartTarget) (bars : List (List ℕ)) (k : ℕ) (ws : List ℕ) (m : PartTarget) → length uss ≡ length ms
     → k < length bars → k < length ms → ws ≡ get_or bars k ws → m ≡ get_or ms k m
-    → take (k + 1) (placed_bars (parts_of uss ms) bars) ≡ take k (placed_bars (parts_of uss ms) bars) ++ map (slice_index m.last) ws ∷ []
+    → take (k + 1) (placed_barriers (parts_of uss ms) bars) ≡ take k (placed_barriers (parts_of uss ms) bars) ++ map (slice_index m.last) ws ∷ []
 placed-more [] [] bars k ws m e lt less is at = absurd (omega (arith, less))
 placed-more [] (n ∷ ms) bars k ws m e lt less is at = absurd (cc)
 placed-more (us ∷ uss) [] bars k ws m e lt less is at = absurd (cc)
@@ -119,10 +119,10 @@ placed-more (us ∷ uss) (n ∷ ms) [] k ws m e lt less is at = absurd (omega (a
 placed-more (us ∷ uss) (n ∷ ms) (vs ∷ bars) zero ws m e lt less is at = sym (λ i. map (slice_index (at i).last) (is i) ∷ [])
 placed-more (us ∷ uss) (n ∷ ms) (vs ∷ bars) (suc k) ws m e lt less is at =
     let on : suc k + 1 ≡ suc (k + 1) = omega arith in
-    ap (λ j. take j (placed_bars (parts_of (us ∷ uss) (n ∷ ms)) (vs ∷ bars))) on ∙ ap (λ (zs : List (List ℕ)). map (slice_index n.last) vs ∷ zs)
+    ap (λ j. take j (placed_barriers (parts_of (us ∷ uss) (n ∷ ms)) (vs ∷ bars))) on ∙ ap (λ (zs : List (List ℕ)). map (slice_index n.last) vs ∷ zs)
     (placed-more uss ms bars k ws m (shorter us uss n ms e) (omega (arith, lt)) (omega (arith, less)) is at)
 
-pub placed-all : (parts : List Part) (bars : List (List ℕ)) (k : ℕ) → length bars ≤ k → take k (placed_bars parts bars) ≡ placed_bars parts bars
+pub placed-all : (parts : List Part) (bars : List (List ℕ)) (k : ℕ) → length bars ≤ k → take k (placed_barriers parts bars) ≡ placed_barriers parts bars
 placed-all [] bars k le = take-nil k
 placed-all (p ∷ parts) [] k le = take-nil k
 placed-all (p ∷ parts) (ws ∷ bars) zero le = absurd (omega (arith, le))
@@ -161,11 +161,11 @@ pub joined-more : (ms : List PartTarget) (k : ℕ) (m : PartTarget) (old new : L
 joined-more ms k m old new lt is e f = f ∙ ap (λ gs. gs ++ m.body.gates) e ∙ sym (whole-more ms k m lt is)
 
 pub circuits-more : (rs : List Rewritten) (k : ℕ) (r : Rewritten) (old new : List Gate) → k < length rs → r ≡ get_or rs k r
-    → old ≡ whole (gates_of (take k rs)) → new ≡ old ++ r.passed.body.gates → new ≡ whole (gates_of (take (k + 1) rs))
+    → old ≡ whole (part_gates (take k rs)) → new ≡ old ++ r.passed.body.gates → new ≡ whole (part_gates (take (k + 1) rs))
 circuits-more rs k r old new lt is e f =
     f ∙ ap (λ gs. gs ++ r.passed.body.gates) e
-    ∙ sym (ap (λ ns. whole (gates_of ns)) (take-next rs k r lt is) ∙ ap whole (map-append (λ r. r.passed.body.gates) (take k rs) (r ∷ []))
-    ∙ whole-append (gates_of (take k rs)) (r.passed.body.gates ∷ []) ∙ ap (λ gs. whole (gates_of (take k rs)) ++ gs) (whole-one r.passed.body.gates))
+    ∙ sym (ap (λ ns. whole (part_gates ns)) (take-next rs k r lt is) ∙ ap whole (map-append (λ r. r.passed.body.gates) (take k rs) (r ∷ []))
+    ∙ whole-append (part_gates (take k rs)) (r.passed.body.gates ∷ []) ∙ ap (λ gs. whole (part_gates (take k rs)) ++ gs) (whole-one r.passed.body.gates))
 
 pub zip-more : {A B C : Type 0} (R : B → C → Type 0) (f : A → B) (xs : List A) (ys : List C) (k : ℕ) (x : A) (y : C) → k < length xs → x ≡ get_or xs k x
     → AllZip R (take k (map f xs)) ys → R (f x) y → AllZip R (take (k + 1) (map f xs)) (ys ++ y ∷ [])

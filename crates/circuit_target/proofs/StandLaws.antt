@@ -23,9 +23,9 @@ use Rattle.program_parts.specs.Parts.{AreRealised, Part, ends, powers, sources, 
 use Rattle.program_parts.proofs.CutLaws.{chopped-whole, sources-whole, targets-whole, whole-map}
 use Rattle.program_parts.proofs.PartsLaws.{AreRealised-whole}
 use Rattle.route_report.specs.declared.lines.Report.{Report}
-use Rattle.routed_parts.specs.Legs.{AreLegs, IsLeg, IsStill}
+use Rattle.routed_parts.specs.RoutedParts.{ArePartsOnDevice, IsPartOnDevice, IsPartInPlace}
 use Rattle.routed_parts.specs.Runs.{AreOfRuns, HasNoMoreSwaps}
-use Rattle.routed_parts.specs.Tries.{AreRouted, IsTaken, IsTry, ahead_of, expense, expense_by}
+use Rattle.routed_parts.specs.Tries.{AreRouted, AreTaken, IsTry, ahead_of, expense, expense_by}
 use Rattle.routed_parts.proofs.LegLaws.{AreOfRuns-legs, FollowsEdges-legs, HasFewSwaps-legs}
 use Rattle.routed_parts.proofs.RunLaws.{IsLeg-run}
 use Rattle.sabre_route.specs.Ahead.{Ahead}
@@ -42,7 +42,7 @@ use Rattle.circuit_target.specs.Standing.{IsInPlace, IsOnQubits, IsOwnTrace, Sta
 use Rattle.circuit_target.specs.InParts.{HasFewTs}
 use Rattle.circuit_target.specs.Targets.{Stands, target_program, IsOptimised, IsTold}
 use Rattle.circuit_target.specs.Trying.{HasFirst}
-use Rattle.circuit_target.specs.Making.{AreRoutedParts, AreWritten, IsAssembled, IsPlacedPart, IsRoutedPart, gates_of, last_of, part_of, parts_of}
+use Rattle.circuit_target.specs.Making.{AreRoutedParts, AreWritten, IsAssembled, IsPlacedPart, IsRoutedPart, part_gates, last_of, part_of, parts_of}
 use Rattle.circuit_target.specs.declared.parts.PartTarget.{PartTarget}
 use Rattle.circuit_target.specs.declared.passes.Rewritten.{Rewritten}
 use Rattle.circuit_target.specs.declared.target.Target.{Target}
@@ -60,7 +60,7 @@ plain_of : (n : ℕ) (gs : List Gate) → All (IsFine n) gs → All IsPlain (ops
 plain_of n gs h = All-from_recursion IsPlain (ops gs) (plain_by n gs (recursion_from_All (IsFine n) gs h))
 
 -- ---- on its own wires
-IsStill-placed : (n : ℕ) (us : List Op) (m : PartTarget) → IsPlacedPart n us m → IsStill n (part_of us m)
+IsStill-placed : (n : ℕ) (us : List Op) (m : PartTarget) → IsPlacedPart n us m → IsPartInPlace n (part_of us m)
 IsStill-placed n us m is = let o = is.optimised in record {
   realised = Realises_same us (ops m.body.gates) n m.turn o.below o.same;
   last = is.last;
@@ -70,7 +70,7 @@ IsStill-placed n us m is = let o = is.optimised in record {
   cx_gates = o.cx_gates;
 }
 
-pub AreStill-placed : (n : ℕ) (uss : List (List Op)) (ms : List PartTarget) → AllZip (IsPlacedPart n) uss ms → AllByRecursion (IsStill n) (parts_of uss ms)
+pub AreStill-placed : (n : ℕ) (uss : List (List Op)) (ms : List PartTarget) → AllZip (IsPlacedPart n) uss ms → AllByRecursion (IsPartInPlace n) (parts_of uss ms)
 AreStill-placed n [] [] h = tt
 AreStill-placed n [] (m ∷ ms) h = absurd h
 AreStill-placed n (us ∷ uss) [] h = absurd h
@@ -78,7 +78,7 @@ AreStill-placed n (us ∷ uss) (m ∷ ms) h = (IsStill-placed n us m h.0, AreSti
 
 -- ---- on the qubits of a device
 IsLeg-routed : (ahead : Ahead) (d : Coupling) (clean : Bool) (n : ℕ) (given : List ℕ) (us : List Op) (w : Rewritten) (r : Routed) (m : PartTarget) → n ≤ d.size
-    → IsOptimised n us w.passed → IsRoutedPart ahead d clean given w r m → IsLeg d clean n given (part_of us m) w.passed.body.gates r
+    → IsOptimised n us w.passed → IsRoutedPart ahead d clean given w r m → IsPartOnDevice d clean n given (part_of us m) w.passed.body.gates r
 IsLeg-routed ahead d clean n given us w r m fits o is =
     let run = is.run in
     IsLeg-run d clean n given (part_of us m) w.passed.body.gates w.passed.turn is.turn m.body.gates r o.fine o.settled
@@ -88,7 +88,7 @@ IsLeg-routed ahead d clean n given us w r m fits o is =
 
 legs-routed : (d : Coupling) (along clean : Bool) (n : ℕ) (given : List ℕ) (uss : List (List Op)) (ws : List Rewritten) (rs : List Routed) (ms : List PartTarget)
     → n ≤ d.size → AllZip (λ us w. IsOptimised n us w.passed) uss ws → AreRoutedParts d along clean given ws rs ms
-    → AreLegs d clean n given (parts_of uss ms) (gates_of ws) rs
+    → ArePartsOnDevice d clean n given (parts_of uss ms) (part_gates ws) rs
 legs-routed d along clean n given [] [] [] [] fits o h = tt
 legs-routed d along clean n given [] [] [] (m ∷ ms) fits o h = absurd h
 legs-routed d along clean n given [] [] (r ∷ rs) ms fits o h = absurd h
@@ -98,17 +98,17 @@ legs-routed d along clean n given (us ∷ uss) (w ∷ ws) [] ms fits o h = absur
 legs-routed d along clean n given (us ∷ uss) (w ∷ ws) (r ∷ rs) [] fits o h = absurd h
 legs-routed d along clean n given (us ∷ uss) (w ∷ ws) (r ∷ rs) (m ∷ ms) fits o h =
     let rest = legs-routed d along clean n r.last uss ws rs ms fits o.1 h.1 in (
-      IsLeg-routed (ahead_of along (whole (gates_of ws))) d clean n given us w r m fits o.0 h.0,
-      subst (λ (p : List ℕ). AreLegs d clean n p (parts_of uss ms) (gates_of ws) rs) (sym h.0.last) rest,
+      IsLeg-routed (ahead_of along (whole (part_gates ws))) d clean n given us w r m fits o.0 h.0,
+      subst (λ (p : List ℕ). ArePartsOnDevice d clean n p (parts_of uss ms) (part_gates ws) rs) (sym h.0.last) rest,
     )
 
 pub AreLegs-routed : (d : Coupling) (clean : Bool) (n : ℕ) (given : List ℕ) (uss : List (List Op)) (ws : List Rewritten) (ms : List PartTarget) → n ≤ d.size
     → AllZip (λ us w. IsOptimised n us w.passed) uss ws → (h : AreWritten d clean given ws ms)
-    → AreLegs d clean n given (parts_of uss ms) (gates_of ws) h.routed
+    → ArePartsOnDevice d clean n given (parts_of uss ms) (part_gates ws) h.routed
 AreLegs-routed d clean n given uss ws ms fits o h = legs-routed d h.along clean n given uss ws h.routed ms fits o h.parts
 
 pub AreRouted-parts : (d : Coupling) (along clean : Bool) (given : List ℕ) (ws : List Rewritten) (rs : List Routed) (ms : List PartTarget)
-    → AreRoutedParts d along clean given ws rs ms → AreRouted d along given (gates_of ws) rs
+    → AreRoutedParts d along clean given ws rs ms → AreRouted d along given (part_gates ws) rs
 AreRouted-parts d along clean given [] [] ms h = tt
 AreRouted-parts d along clean given [] (r ∷ rs) ms h = absurd h
 AreRouted-parts d along clean given (w ∷ ws) [] ms h = absurd h
@@ -128,7 +128,7 @@ swaps-of_runs clean n (p ∷ parts) (gates ∷ lists) (r ∷ rs) h =
     ∙ sym (sum_by-cons (λ (r : Routed). r.swaps) r rs)
 
 no_more : (d : Coupling) (starts : Starts) (clean : Bool) (n : ℕ) (first : List ℕ) (parts : List Part) (lists : List (List Gate)) (rs : List Routed)
-    → AreOfRuns clean n parts lists rs → IsTaken d starts lists first rs → HasFirst d starts lists → HasNoMoreSwaps d starts lists parts
+    → AreOfRuns clean n parts lists rs → AreTaken d starts lists first rs → HasFirst d starts lists → HasNoMoreSwaps d starts lists parts
 no_more d (Given q) clean n first parts lists rs left taken before = tt
 no_more d (Tries k) clean n first parts lists rs left taken before =
     let q = before.0 in
@@ -227,7 +227,7 @@ StandsFor-put_together keep s ms t told is r =
       t_gates = is.t_gates;
     }
 
-pub Stands-still : (keep : Bool) (s : Program) (ms : List PartTarget) (t : Target) → IsPutTogether keep s ms t → AllByRecursion (IsStill s.wires) (parts_of s.cut.parts ms)
+pub Stands-still : (keep : Bool) (s : Program) (ms : List PartTarget) (t : Target) → IsPutTogether keep s ms t → AllByRecursion (IsPartInPlace s.wires) (parts_of s.cut.parts ms)
     → t.body.wires ≡ s.wires → t.swaps ≡ 0 → t.initial ≡ identity s.wires → t.last ≡ identity s.wires → t.cost ≡ None → t.trace.items ≡ []
     → t.spares ≡ None → Stands s keep false (IsInPlace s) t
 Stands-still keep s ms t is still wires swaps initial last cost trace alone = record {
@@ -247,13 +247,13 @@ Stands-still keep s ms t is still wires swaps initial last cost trace alone = re
   trace = λ told r. trace;
 }
   where
-    each : {P : Part → Type 0} (ps : List Part) → ((p : Part) → IsStill s.wires p → P p) → AllByRecursion (IsStill s.wires) ps → AllByRecursion P ps
+    each : {P : Part → Type 0} (ps : List Part) → ((p : Part) → IsPartInPlace s.wires p → P p) → AllByRecursion (IsPartInPlace s.wires) ps → AllByRecursion P ps
     each [] f h = tt
     each (p ∷ ps) f h = (f p h.0, each ps f h.1)
 
 pub Stands-legs : (keep traced clean : Bool) (starts : Starts) (d : Coupling) (s : Program) (ms : List PartTarget) (lists : List (List Gate)) (rs : List Routed)
-    (t : Target) → IsPutTogether keep s ms t → AreLegs d clean s.wires t.initial (parts_of s.cut.parts ms) lists rs
-    → t.body.wires ≡ d.size → t.swaps ≡ sum_by (λ (m : PartTarget). m.swaps) ms → IsTaken d starts lists t.initial rs × HasFirst d starts lists
+    (t : Target) → IsPutTogether keep s ms t → ArePartsOnDevice d clean s.wires t.initial (parts_of s.cut.parts ms) lists rs
+    → t.body.wires ≡ d.size → t.swaps ≡ sum_by (λ (m : PartTarget). m.swaps) ms → AreTaken d starts lists t.initial rs × HasFirst d starts lists
     → (k : ℕ) → IsDiameter d.size d.edges (cost d) k → t.cost ≡ told_cost d (ops t.body.gates)
     → ((told : Report) → IsTold t told → IsOwnTrace traced s (target_program s t) told t.trace.items)
     → t.spares ≡ None → Stands s keep traced (IsOnQubits d starts clean s) t
@@ -272,7 +272,7 @@ Stands-legs keep traced clean starts d s ms lists rs t is legs wires swaps taken
         runs = record {
           lists = lists;
           routed = rs;
-          taken = subst (λ p. IsTaken d starts lists p rs) (sym r.initial) taken.0;
+          taken = subst (λ p. AreTaken d starts lists p rs) (sym r.initial) taken.0;
           left = left;
           no_more_swaps = no_more d starts clean s.wires t.initial parts lists rs left taken.0 taken.1;
         };

@@ -30,7 +30,7 @@ use Rattle.rewrite_pass.specs.Windows.IsWindow.{HadSHad, HadSdgHad, HadZHad, Had
 use Rattle.rewrite_pass.specs.Law.{IsRewriting}
 use Rattle.coupling_map.specs.Coupling.{Coupling}
 use Rattle.sabre_route.specs.declared.router.Routed.{Routed}
-use Rattle.routed_parts.specs.Legs.{IsCleaned}
+use Rattle.routed_parts.specs.RoutedParts.{IsCleaned}
 use Rattle.routed_parts.specs.Settled.{IsSettled}
 use Rattle.circuit_target.specs.Standing.{claim_of, IsOwnTrace}
 use Rattle.circuit_target.specs.Targets.{HasSteps, IsOptimised}

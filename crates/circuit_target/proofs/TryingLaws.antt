@@ -23,7 +23,7 @@ use Rattle.circuit_list.specs.Gates.{op_of, ops}
 use Rattle.coupling_map.specs.Coupling.{Coupling}
 use Rattle.program_parts.specs.Cuts.{whole}
 use Rattle.routed_parts.specs.Costs.{cx_cost}
-use Rattle.routed_parts.specs.Tries.{AreRouted, IsTaken, IsTry, ahead_of, is_along, expense, expense_by}
+use Rattle.routed_parts.specs.Tries.{AreRouted, AreTaken, IsTry, ahead_of, is_along, expense, expense_by}
 use Rattle.sabre_route.specs.Ahead.{IsLookoutOver, Outlook, cx_only}
 use Rattle.sabre_route.specs.Routing.{IsLayout, IsRouted}
 use Rattle.sabre_route.specs.declared.router.Routed.{Routed}
@@ -32,7 +32,7 @@ use Rattle.unitary_model.specs.Operations.{cx_count}
 use Rattle.unitary_model.proofs.Steps.{cx_count-append}
 use Rattle.wire_starts.specs.Starts.{IsNearestFirst, IsTryStart}
 use Rattle.wire_starts.specs.declared.Starts.TheVariants.{Tries}
-use Rattle.circuit_target.specs.Making.{AreRoutedParts, IsRoutedPart, gates_of}
+use Rattle.circuit_target.specs.Making.{AreRoutedParts, IsRoutedPart, part_gates}
 use Rattle.circuit_target.specs.Targets.{IsOptimised}
 use Rattle.circuit_target.specs.Trying.{AreAllOf, HasBegun, IsBestOf, IsLaidOut, IsLookingOver, IsRound, IsTried}
 use Rattle.circuit_target.specs.declared.parts.PartTarget.{PartTarget}
@@ -49,8 +49,8 @@ dropped (x ∷ xs) zero le = absurd (omega (arith, le))
 dropped (x ∷ xs) (suc i) le = dropped xs i (omega (arith, le))
 
 pub gates-part : (ws : List Rewritten) (i : ℕ) (w : Rewritten) → i < length ws → w ≡ get_or ws i w
-    → whole (gates_of (drop i ws)) ≡ w.passed.body.gates ++ whole (gates_of (drop (i + 1) ws))
-gates-part ws i w lt is = ap (λ xs. whole (gates_of xs)) (drop-part ws i w lt is)
+    → whole (part_gates (drop i ws)) ≡ w.passed.body.gates ++ whole (part_gates (drop (i + 1) ws))
+gates-part ws i w lt is = ap (λ xs. whole (part_gates xs)) (drop-part ws i w lt is)
 
 -- ---- lookouts
 only-nil : (gs : List Gate) → cx_only (gs ++ []) ≡ cx_only gs
@@ -79,22 +79,22 @@ chained-over along o n gs h =
 
 -- ---- runs through the parts from a place on
 pub record RunsBefore (d : Coupling) (along : Bool) (given now : List ℕ) (ws : List Rewritten) (i : ℕ) (rs : List Routed) : Type 0 where
-  pub onward : (xs : List Routed) → AreRouted d along now (gates_of (drop i ws)) xs → AreRouted d along given (gates_of ws) (rs ++ xs)
+  pub onward : (xs : List Routed) → AreRouted d along now (part_gates (drop i ws)) xs → AreRouted d along given (part_gates ws) (rs ++ xs)
 
 pub runs-more : (d : Coupling) (along : Bool) (given now : List ℕ) (ws : List Rewritten) (i : ℕ) (rs : List Routed) (w : Rewritten) (r : Routed)
     → i < length ws → w ≡ get_or ws i w → RunsBefore d along given now ws i rs
-    → IsRouted (ahead_of along (whole (gates_of (drop (i + 1) ws)))) d w.passed.body.gates now r
+    → IsRouted (ahead_of along (whole (part_gates (drop (i + 1) ws)))) d w.passed.body.gates now r
     → RunsBefore d along given r.last ws (i + 1) (rs ++ r ∷ [])
 runs-more d along given now ws i rs w r lt is before run = record {
-  onward = λ xs h. subst (AreRouted d along given (gates_of ws)) (sym (append_assoc rs (r ∷ []) xs))
-      (before.onward (r ∷ xs) (subst (λ (vs : List Rewritten). AreRouted d along now (gates_of vs) (r ∷ xs)) (sym (drop-part ws i w lt is)) (run, h)));
+  onward = λ xs h. subst (AreRouted d along given (part_gates ws)) (sym (append_assoc rs (r ∷ []) xs))
+      (before.onward (r ∷ xs) (subst (λ (vs : List Rewritten). AreRouted d along now (part_gates vs) (r ∷ xs)) (sym (drop-part ws i w lt is)) (run, h)));
 }
 
 pub runs-all : (d : Coupling) (along : Bool) (given now : List ℕ) (ws : List Rewritten) (i : ℕ) (rs : List Routed) → length ws ≤ i
-    → RunsBefore d along given now ws i rs → AreRouted d along given (gates_of ws) rs
+    → RunsBefore d along given now ws i rs → AreRouted d along given (part_gates ws) rs
 runs-all d along given now ws i rs le before =
-    subst (AreRouted d along given (gates_of ws)) (append-nil rs)
-    (before.onward [] (subst (λ (vs : List Rewritten). AreRouted d along now (gates_of vs) []) (sym (dropped ws i le)) tt))
+    subst (AreRouted d along given (part_gates ws)) (append-nil rs)
+    (before.onward [] (subst (λ (vs : List Rewritten). AreRouted d along now (part_gates vs) []) (sym (dropped ws i le)) tt))
 
 pub record PartsBefore (d : Coupling) (along clean : Bool) (given now : List ℕ) (ws : List Rewritten) (i : ℕ) (rs : List Routed) (ms : List PartTarget) : Type 0 where
   pub onward : (xs : List Routed) (ns : List PartTarget) → AreRoutedParts d along clean now (drop i ws) xs ns
@@ -102,7 +102,7 @@ pub record PartsBefore (d : Coupling) (along clean : Bool) (given now : List ℕ
 
 pub parts-more : (d : Coupling) (along clean : Bool) (given now : List ℕ) (ws : List Rewritten) (i : ℕ) (rs : List Routed) (ms : List PartTarget)
     (w : Rewritten) (r : Routed) (m : PartTarget) → i < length ws → w ≡ get_or ws i w → PartsBefore d along clean given now ws i rs ms
-    → IsRoutedPart (ahead_of along (whole (gates_of (drop (i + 1) ws)))) d clean now w r m
+    → IsRoutedPart (ahead_of along (whole (part_gates (drop (i + 1) ws)))) d clean now w r m
     → PartsBefore d along clean given r.last ws (i + 1) (rs ++ r ∷ []) (ms ++ m ∷ [])
 parts-more d along clean given now ws i rs ms w r m lt is before part = record {
   onward = λ xs ns h.
@@ -152,7 +152,7 @@ run-expense gs r b few cx swaps =
 -- of one try there is nothing to compare
 pub IsTaken-one : (d : Coupling) (lists : List (List Gate)) (p : List ℕ) (rs : List Routed)
     → ((k : ℕ) (q t : List ℕ) (rs xs : List Routed) → IsTry d lists k q rs → IsTry d lists k t xs → expense d rs ≡ expense d xs)
-    → IsTry d lists 0 p rs → IsTaken d (Tries 1) lists p rs
+    → IsTry d lists 0 p rs → AreTaken d (Tries 1) lists p rs
 IsTaken-one d lists p rs one made = record {
   number = 0;
   among = omega arith;
@@ -331,14 +331,14 @@ pub cx-append : (gs fs : List Gate) → cx_count (ops (gs ++ fs)) ≡ cx_count (
 cx-append gs fs = ap cx_count (ops-append gs fs) ∙ cx_count-append (ops gs) (ops fs)
 
 pub cx-part : (ws : List Rewritten) (i : ℕ) (w : Rewritten) → i < length ws → w ≡ get_or ws i w
-    → cx_count (ops (whole (gates_of (drop i ws)))) ≡ cx_count (ops w.passed.body.gates) + cx_count (ops (whole (gates_of (drop (i + 1) ws))))
-cx-part ws i w lt is = ap (λ gs. cx_count (ops gs)) (gates-part ws i w lt is) ∙ cx-append w.passed.body.gates (whole (gates_of (drop (i + 1) ws)))
+    → cx_count (ops (whole (part_gates (drop i ws)))) ≡ cx_count (ops w.passed.body.gates) + cx_count (ops (whole (part_gates (drop (i + 1) ws))))
+cx-part ws i w lt is = ap (λ gs. cx_count (ops gs)) (gates-part ws i w lt is) ∙ cx-append w.passed.body.gates (whole (part_gates (drop (i + 1) ws)))
 
 pub cx-optimised : (n : ℕ) (uss : List (List Op)) (ws : List Rewritten) → AllZip (λ us w. IsOptimised n us w.passed) uss ws
-    → cx_count (ops (whole (gates_of ws))) ≤ cx_count (whole uss)
+    → cx_count (ops (whole (part_gates ws))) ≤ cx_count (whole uss)
 cx-optimised n [] [] h = omega arith
 cx-optimised n [] (w ∷ ws) h = absurd h
 cx-optimised n (us ∷ uss) [] h = absurd h
 cx-optimised n (us ∷ uss) (w ∷ ws) h =
     let rest = cx-optimised n uss ws h.1 in
-    omega (arith, h.0.cx_gates, rest, cx-append w.passed.body.gates (whole (gates_of ws)), cx_count-append us (whole uss))
+    omega (arith, h.0.cx_gates, rest, cx-append w.passed.body.gates (whole (part_gates ws)), cx_count-append us (whole uss))

@@ -1,5 +1,5 @@
 -- A target that is made for a source part by part, each part from where the last one ended.
---   placed_bars parts bars      the qubits at which the wires of each barrier stand when the part before it ends
+--   placed_barriers parts bars  the qubits at which the wires of each barrier stand when the part before it ends
 --   AreMade source target first parts   the parts are those of both programs, and all of each; each is realised from
 --                               where the last one ended; and each barrier of the target names the qubits of the wires
 --                               of the source's
@@ -13,17 +13,17 @@ use Rattle.route_report.specs.Parts.{ToldParts}
 use Rattle.unitary_model.specs.OddPaths.{odd_paths}
 use Rattle.unitary_model.specs.Operations.{t_count}
 
-abbrev pub placed_bars : List Part → List (List ℕ) → List (List ℕ)
-placed_bars [] bars = []
-placed_bars (p ∷ parts) [] = []
-placed_bars (p ∷ parts) (ws ∷ bars) = map (slice_index p.last) ws ∷ placed_bars parts bars
+abbrev pub placed_barriers : List Part → List (List ℕ) → List (List ℕ)
+placed_barriers [] bars = []
+placed_barriers (p ∷ parts) [] = []
+placed_barriers (p ∷ parts) (ws ∷ bars) = map (slice_index p.last) ws ∷ placed_barriers parts bars
 
 pub record AreMade (source target : Program) (first : List ℕ) (parts : List Part) : Type 0 where
   pub of_source : map (λ p. p.source) parts ≡ source.cut.parts
   pub of_target : map (λ p. p.target) parts ≡ target.cut.parts
   pub whole_source : sources parts ≡ source.ops
   pub whole_target : targets parts ≡ target.ops
-  pub bars : target.cut.bars ≡ placed_bars parts source.cut.bars
+  pub bars : target.cut.bars ≡ placed_barriers parts source.cut.bars
   pub realised : AreRealised source.wires target.wires first parts
 
 abbrev pub between : List Part → List (List ℕ)

@@ -11,7 +11,7 @@
 --   IsTraceOf d given r m trace   where steps are told of a part, the trace is that of its run;  AreTraced: where it is
 --                                 the only part
 --   are_told rs          whether steps are told
---   gates_of rs          the gates of all parts
+--   part_gates rs        the gates of all parts
 --   part_of us m, parts_of uss ms   a part of a source with what is written for it; all of them
 --   turns_of ms          the sum of their turns
 --   lasts_but_one ms     where the wires stand at the end of each part but the last
@@ -30,7 +30,7 @@ use Rattle.gate_inline.specs.Programs.{Program}
 use Rattle.program_parts.specs.Cuts.{whole}
 use Rattle.program_parts.specs.Parts.{Part}
 use Rattle.rewrite_pass.specs.Traces.{AreSteps, Step}
-use Rattle.sabre_route.specs.Measures.{bound}
+use Rattle.sabre_route.specs.Measures.{swap_bound}
 use Rattle.sabre_route.specs.Routing.{IsRouted}
 use Rattle.sabre_route.specs.Ahead.{Ahead}
 use Rattle.sabre_route.specs.declared.router.Routed.{Routed}
@@ -42,13 +42,13 @@ use Rattle.unitary_model.specs.Realises.{Realises}
 use Rattle.circuit_target.specs.declared.parts.PartTarget.{PartTarget}
 use Rattle.circuit_target.specs.declared.passes.Rewritten.{Rewritten}
 use Rattle.circuit_target.specs.declared.target.Target.{Target}
-use Rattle.circuit_target.specs.InParts.{placed_bars, told_parts}
+use Rattle.circuit_target.specs.InParts.{placed_barriers, told_parts}
 use Rattle.circuit_target.specs.Targets.{IsOptimised}
-use Rattle.routed_parts.specs.Legs.{IsCleaned}
+use Rattle.routed_parts.specs.RoutedParts.{IsCleaned}
 use Rattle.routed_parts.specs.Tries.{ahead_of}
 
-abbrev pub gates_of : List Rewritten → List (List Gate)
-gates_of rs = map (λ r. r.passed.body.gates) rs
+abbrev pub part_gates : List Rewritten → List (List Gate)
+part_gates rs = map (λ r. r.passed.body.gates) rs
 
 pub record IsRunOf (ahead : Ahead) (d : Coupling) (n : ℕ) (gates : List Gate) (given : List ℕ) (r : Routed)
     : Type 0 where
@@ -60,7 +60,7 @@ pub record IsRunOf (ahead : Ahead) (d : Coupling) (n : ℕ) (gates : List Gate) 
   pub edges : FollowsEdges d.edges (ops r.body.gates)
   pub t_gates : t_count (ops r.body.gates) ≡ t_count (ops gates)
   pub cx_gates : cx_count (ops r.body.gates) ≡ cx_count (ops gates) + 3 * r.swaps
-  pub few_swaps : (k : ℕ) → IsDiameter d.size d.edges (cost d) k → r.swaps ≤ cx_count (ops gates) * bound d k
+  pub few_swaps : (k : ℕ) → IsDiameter d.size d.edges (cost d) k → r.swaps ≤ cx_count (ops gates) * swap_bound d k
 
 abbrev pub IsRunTrace : Coupling → Passed → List Step → List ℕ → Routed → ℕ → List ℕ → Type 0
 IsRunTrace d c ss given r j trace = (e : Claim) (t : ℕ) → e.wires ≡ c.body.wires → e.qubits ≡ d.size
@@ -92,7 +92,7 @@ pub record IsWrittenPart (ahead : Ahead) (d : Coupling) (clean : Bool) (given : 
 abbrev pub AreRoutedParts : Coupling → Bool → Bool → List ℕ → List Rewritten → List Routed → List PartTarget → Type 0
 AreRoutedParts d along clean given [] [] [] = Unit {0}
 AreRoutedParts d along clean given (w ∷ ws) (r ∷ rs) (m ∷ ms) =
-    IsRoutedPart (ahead_of along (whole (gates_of ws))) d clean given w r m
+    IsRoutedPart (ahead_of along (whole (part_gates ws))) d clean given w r m
     × AreRoutedParts d along clean r.last ws rs ms
 AreRoutedParts d along clean given _ _ _ = ⊥
 
@@ -139,6 +139,6 @@ IsOnSize size m = m.body.wires ≡ size
 pub record IsAssembled (keep : Bool) (s : Program) (ms : List PartTarget) (t : Target) : Type 0 where
   pub gates : t.body.gates ≡ whole (map (λ m. m.body.gates) ms)
   pub lengths : t.lengths.items ≡ map (λ m. length m.body.gates) ms
-  pub bars : map (λ v. v.items) t.barriers.items ≡ placed_bars (parts_of s.cut.parts ms) s.cut.bars
+  pub bars : map (λ v. v.items) t.barriers.items ≡ placed_barriers (parts_of s.cut.parts ms) s.cut.bars
   pub turn : t.turn ≡ turns_of ms % 8
   pub tells : t.parts ≡ told_parts keep (parts_of s.cut.parts ms)

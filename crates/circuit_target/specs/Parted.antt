@@ -8,7 +8,7 @@ use Rattle.gate_expand.specs.Expansion.{IsFineOp}
 use Rattle.gate_expand.specs.declared.source.Ops.{Ops}
 use Rattle.gate_inline.specs.Programs.{Program}
 use Rattle.gate_inline.specs.Sizes.{most_operations}
-use Rattle.gate_inline.specs.Splits.{IsBar}
+use Rattle.gate_inline.specs.Splits.{IsBarrier}
 use Rattle.program_parts.specs.Cuts.{IsCut, whole}
 use Rattle.qasm_check.specs.declared.register.ClassicalRegister.{ClassicalRegister}
 use Rattle.unitary_model.specs.Limits.{most_qubits}
@@ -33,5 +33,5 @@ pub record IsParted (wires : ℕ) (os : List Ops) (p : Program) : Type 0 where
   pub cut : IsCut p.cut
   pub parts : whole p.cut.parts ≡ p.ops
   pub fine : All (IsFineOp p.wires) p.ops
-  pub bars : All (IsBar p.wires) p.cut.bars
+  pub bars : All (IsBarrier p.wires) p.cut.bars
   pub on : All (λ o. o.wires ≡ wires) os

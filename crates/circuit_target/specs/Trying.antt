@@ -14,7 +14,7 @@
 use Rattle.std.specs.Prelude.{◌≡◌, ℕ, ◌+◌, ◌*◌, ◌%◌, ◌<◌, ◌≤◌, Bool, false, List, [], Option, None, Some, nat_lt, reverse}
 use Rattle.circuit_list.specs.declared.Gate.{Gate}
 use Rattle.coupling_map.specs.Coupling.{Coupling}
-use Rattle.routed_parts.specs.Tries.{AreRouted, IsTaken, IsTry, ahead_of, is_along, expense}
+use Rattle.routed_parts.specs.Tries.{AreRouted, AreTaken, IsTry, ahead_of, is_along, expense}
 use Rattle.sabre_route.specs.Ahead.{Outlook, cx_only}
 use Rattle.sabre_route.specs.Routing.{IsLayout}
 use Rattle.sabre_route.specs.declared.router.Routed.{Routed}
@@ -23,7 +23,7 @@ use Rattle.wire_starts.specs.declared.Starts.{Starts}
 use Rattle.wire_starts.specs.declared.Starts.TheVariants.{Given, Tries}
 use Rattle.circuit_target.specs.declared.passes.Rewritten.{Rewritten}
 use Rattle.circuit_target.specs.declared.parts.PartTarget.{PartTarget}
-use Rattle.circuit_target.specs.Making.{AreWritten, gates_of}
+use Rattle.circuit_target.specs.Making.{AreWritten, part_gates}
 
 abbrev pub looks_along : Starts → Bool
 looks_along (Given q) = false
@@ -44,7 +44,7 @@ pub record IsLaidOut (d : Coupling) (gs : List Gate) (k : ℕ) (p : List ℕ) : 
 
 pub record IsExpense (d : Coupling) (along : Bool) (given : List ℕ) (ws : List Rewritten) (w : ℕ) : Type 0 where
   pub routed : List Routed
-  pub runs : AreRouted d along given (gates_of ws) routed
+  pub runs : AreRouted d along given (part_gates ws) routed
   pub spent : w ≡ expense d routed
 
 pub record IsTried (d : Coupling) (lists : List (List Gate)) (k : ℕ) (p : List ℕ) (w : ℕ) : Type 0 where
@@ -54,7 +54,7 @@ pub record IsTried (d : Coupling) (lists : List (List Gate)) (k : ℕ) (p : List
 
 abbrev pub HasFirst : Coupling → Starts → List (List Gate) → Type 0
 HasFirst d (Given q) lists = Unit {0}
-HasFirst d (Tries k) lists = (q : List ℕ) × (rs : List Routed) × IsTaken d (Tries 1) lists q rs
+HasFirst d (Tries k) lists = (q : List ℕ) × (rs : List Routed) × AreTaken d (Tries 1) lists q rs
 
 pub record IsBestOf (d : Coupling) (tries : ℕ) (lists : List (List Gate)) (k : ℕ) (p : List ℕ) (w : ℕ) : Type 0 where
   pub first : HasFirst d (Tries tries) lists
@@ -76,9 +76,9 @@ pub record AreAllOf (n made tries : ℕ) : Type 0 where
 
 abbrev pub HasBegun : Coupling → Starts → List (List Gate) → List ℕ → Bool → Type 0
 HasBegun d starts lists p along = (rs : List Routed) → AreRouted d along p lists rs
-    → IsTaken d starts lists p rs × HasFirst d starts lists
+    → AreTaken d starts lists p rs × HasFirst d starts lists
 
 pub record IsRoute (d : Coupling) (starts : Starts) (clean : Bool) (ws : List Rewritten) (p : List ℕ)
     (ms : List PartTarget) : Type 0 where
   pub written : AreWritten d clean p ws ms
-  pub begun : HasBegun d starts (gates_of ws) p written.along
+  pub begun : HasBegun d starts (part_gates ws) p written.along

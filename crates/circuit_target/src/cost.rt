@@ -2,7 +2,7 @@
 
 ghost use Rattle.std.specs.Prelude.{◌≡◌, ◌*◌, ◌≤◌, ◌∷◌, IfSome, []};
 ghost use Rattle.circuit_list.specs.Gates.{op_of, ops};
-ghost use Rattle.coupling_map.specs.Coupling.{format_of};
+ghost use Rattle.coupling_map.specs.Coupling.{format_by_costs};
 ghost use Rattle.coupling_map.specs.Edges.{FollowsEdge, FollowsEdges};
 ghost use Rattle.unitary_model.specs.Operations.{cx_count};
 ghost use Rattle.routed_parts.specs.Costs.{cx_cost, op_cost, told_cost};
@@ -42,7 +42,7 @@ fn sum_of_costs(device: &Device, body: &Circuit) -> u64
 #[tactic(auto, using(crate::proofs::CostLaws::told))]
 pub fn cost_of(device: &Device, body: &Circuit) -> Option<u64>
     requires edges { FollowsEdges device.now.edges (ops body.now.gates) }
-    requires cx_limit { format_of device.now.costs ≡ 2 → cx_count (ops body.now.gates) ≤ 4294967296 }
+    requires cx_limit { format_by_costs device.now.costs ≡ 2 → cx_count (ops body.now.gates) ≤ 4294967296 }
     ensures value { result ≡ told_cost device.now (ops body.now.gates) }
     ensures limited { IfSome result (λ k. k ≤ cx_count (ops body.now.gates) * 1000000) }
 {

@@ -26,5 +26,5 @@ mod tries;
 pub use parted::PartedProgram;
 pub use passes::Rewritten;
 pub use reads::placed_reads;
-pub use target::{Target, Wishes, in_place, optimised, routed};
+pub use target::{RouteOptions, Target, in_place, optimised, routed};
 pub use traces::RunTraces;

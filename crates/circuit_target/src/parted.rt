@@ -35,7 +35,7 @@ impl<'a> PartedProgram<'a> {
     ghost use Rattle.circuit_target.specs.Parted.{lists_of, parted};
     ghost use Rattle.gate_expand.specs.Expansion.{IsFineOp};
     ghost use Rattle.gate_inline.specs.Sizes.{most_operations};
-    ghost use Rattle.gate_inline.specs.Splits.{IsBar};
+    ghost use Rattle.gate_inline.specs.Splits.{IsBarrier};
     ghost use Rattle.program_parts.specs.Cuts.{IsCut, whole};
     ghost use Rattle.unitary_model.specs.Limits.{most_qubits};
 
@@ -52,7 +52,7 @@ impl<'a> PartedProgram<'a> {
         requires operations_limit { length (whole (lists_of parts.now)) ≤ most_operations }
         requires cut { IsCut (record { parts = lists_of parts.now; bars = map (λ v. v.items) bars.now }) }
         requires fine { All (IsFineOp wires) (whole (lists_of parts.now)) }
-        requires bars { All (IsBar wires) (map (λ v. v.items) bars.now) }
+        requires bars { All (IsBarrier wires) (map (λ v. v.items) bars.now) }
         requires on { All (λ o. o.wires ≡ wires) parts.now }
         ensures value { result ≡ parted wires parts.now (map (λ v. v.items) bars.now) reads.now registers.now barriers }
     {
@@ -73,7 +73,7 @@ impl<'a> PartedProgram<'a> {
         ensures cut { IsCut self.now.cut }
         ensures parts { whole self.now.cut.parts ≡ self.now.ops }
         ensures fine { All (IsFineOp self.now.wires) self.now.ops }
-        ensures bars { All (IsBar self.now.wires) self.now.cut.bars }
+        ensures bars { All (IsBarrier self.now.wires) self.now.cut.bars }
     {
         let _parts = &self.parts;
     }

@@ -3,7 +3,7 @@
 ghost use Rattle.std.specs.Prelude.{◌≡◌, ◌%◌, ◌<◌, ◌≤◌, All, IfOk, OnOk, ◌++◌, length, map, slice_index, sum_by};
 ghost use Rattle.circuit_list.specs.Gates.{most_wires};
 ghost use Rattle.program_parts.specs.Cuts.{whole};
-ghost use Rattle.circuit_target.specs.InParts.{placed_bars, told_parts};
+ghost use Rattle.circuit_target.specs.InParts.{placed_barriers, told_parts};
 ghost use Rattle.circuit_target.specs.Making.{IsOnSize, lasts_but_one, parts_of, turns_of};
 
 use crate::parted::PartedProgram;
@@ -128,7 +128,7 @@ pub fn placed_bars(
 ) -> Result<Vec<Barrier>, AllocError>
     requires many { length made.now ≡ length source.now.cut.parts }
     requires placed { All (λ m. source.now.wires ≤ length m.last) made.now }
-    ensures ok { IfOk result (λ v. map (λ b. b.items) v.items ≡ placed_bars (parts_of source.now.cut.parts made.now) source.now.cut.bars) }
+    ensures ok { IfOk result (λ v. map (λ b. b.items) v.items ≡ placed_barriers (parts_of source.now.cut.parts made.now) source.now.cut.bars) }
 {
     source.facts();
     let bars = source.bars();

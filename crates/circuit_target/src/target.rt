@@ -7,12 +7,12 @@ ghost use Rattle.gate_expand.specs.Expansion.{IsFineOp};
 ghost use Rattle.program_parts.specs.Cuts.{uncut, whole};
 ghost use Rattle.trace_text.specs.Texts.{ended, lines_of};
 ghost use Rattle.unitary_model.specs.Placement.{IsPlacement, identity};
-ghost use Rattle.routed_parts.specs.Legs.{IsCleaned};
+ghost use Rattle.routed_parts.specs.RoutedParts.{IsCleaned};
 ghost use Rattle.sabre_route.specs.Ahead.{Ahead, IsLookoutOver};
 ghost use Rattle.sabre_route.specs.Telling.{IsRoutedBy};
 ghost use Rattle.circuit_target.specs.Standing.{IsInPlace, IsOnQubits};
 ghost use Rattle.circuit_target.specs.Targets.{IsFit, Stands, HasSteps, IsOptimised};
-ghost use Rattle.circuit_target.specs.Making.{AreTraced, AreWritten, IsPlacedPart, IsRunOf, IsRunTrace, IsTraceOf, IsWrittenPart, are_told, gates_of, last_of};
+ghost use Rattle.circuit_target.specs.Making.{AreTraced, AreWritten, IsPlacedPart, IsRunOf, IsRunTrace, IsTraceOf, IsWrittenPart, are_told, part_gates, last_of};
 ghost use Rattle.circuit_target.specs.Trying.{IsLookingOver, IsRoute};
 ghost use Rattle.circuit_list.specs.Gates.{ops};
 ghost use Rattle.unitary_model.specs.Operations.{cx_count};
@@ -179,7 +179,7 @@ fn joined(alloc: Global, wires: u32, rewritten: &[Rewritten]) -> Result<Circuit,
     requires wires_limit { wires ≤ most_wires }
     requires each { All (λ r. r.passed.body.wires ≡ wires) rewritten.now }
     ensures wires { IfOk result (λ c. c.wires ≡ wires) }
-    ensures gates { IfOk result (λ c. c.gates ≡ whole (gates_of rewritten.now)) }
+    ensures gates { IfOk result (λ c. c.gates ≡ whole (part_gates rewritten.now)) }
 {
     let mut body = Circuit::empty(alloc, wires)?;
     'parts: for part in rewritten {
@@ -277,7 +277,7 @@ fn cleaned(alloc: Global, body: Circuit, clean: bool) -> Result<Passed, AllocErr
 
 /// A part on the qubits of a device, and where its wires end.
 #[derive(Drop)]
-struct Leg {
+struct RoutedPart {
     made: PartTarget,
     last: Placement,
     trace: Vec<u8>,
@@ -293,7 +293,7 @@ fn routed_part<T: RunTraces>(
     given: Placement,
     lookout: &mut Option<Lookout<'_>>,
     clean: bool,
-) -> Result<Leg, AllocError>
+) -> Result<RoutedPart, AllocError>
     requires turn { rewritten.now.passed.turn < 8 }
     requires fits { rewritten.now.passed.body.wires ≤ device.now.size }
     requires placed { length given ≡ device.now.size }
@@ -327,7 +327,7 @@ fn routed_part<T: RunTraces>(
     let last = qubits_of(alloc, &routed.last)?;
     let left = cleaned(alloc, routed.body, clean)?;
     left.body.facts();
-    Ok(Leg {
+    Ok(RoutedPart {
         made: PartTarget {
             body: left.body,
             last,
@@ -341,7 +341,7 @@ fn routed_part<T: RunTraces>(
 
 /// All parts on the qubits of a device, and where their wires end. The trace is that of the last part.
 #[derive(Drop)]
-struct Legs {
+struct RoutedParts {
     made: Vec<PartTarget>,
     last: Placement,
     trace: Vec<u8>,
@@ -357,11 +357,11 @@ fn routed_parts<T: RunTraces>(
     given: Placement,
     lookout: &mut Option<Lookout<'_>>,
     clean: bool,
-) -> Result<Legs, AllocError>
+) -> Result<RoutedParts, AllocError>
     requires turns { All (λ r. r.passed.turn < 8) rewritten.now }
     requires fits { All (λ r. r.passed.body.wires ≤ device.now.size) rewritten.now }
     requires placed { length given ≡ device.now.size }
-    requires seen { IsLookingOver lookout.old device.now.size (whole (gates_of rewritten.now)) }
+    requires seen { IsLookingOver lookout.old device.now.size (whole (part_gates rewritten.now)) }
     ensures routed { IfOk result (λ l. (w : AreWritten device.now clean given rewritten.now l.made.items) × (w.along ≡ is_some lookout.old)) }
     ensures last { IfOk result (λ l. l.last ≡ last_of given l.made.items) }
     ensures told { IfOk result (λ l. clean ≡ false → AreTraced device.now given rewritten.now l.made.items l.trace.items) }
@@ -377,7 +377,7 @@ fn routed_parts<T: RunTraces>(
         trace = leg.trace;
         now = leg.last;
     }
-    Ok(Legs {
+    Ok(RoutedParts {
         made,
         last: now,
         trace,
@@ -388,7 +388,7 @@ fn routed_parts<T: RunTraces>(
 #[derive(Drop)]
 struct Route {
     initial: Placement,
-    legs: Legs,
+    legs: RoutedParts,
 }
 
 /// The parts, of which `body` has all gates, on the qubits of a device: from the given placement on, or the best of so many tries.
@@ -401,7 +401,7 @@ fn routed_from<T: RunTraces>(
     starts: Starts,
     clean: bool,
 ) -> Result<Route, AllocError>
-    requires gates { body.now.gates ≡ whole (gates_of rewritten.now) }
+    requires gates { body.now.gates ≡ whole (part_gates rewritten.now) }
     requires turns { All (λ r. r.passed.turn < 8) rewritten.now }
     requires each { All (λ r. r.passed.body.wires ≤ device.now.size) rewritten.now }
     requires few { cx_count (ops body.now.gates) ≤ 65536 }
@@ -442,7 +442,7 @@ fn routed_over<T: RunTraces>(
 ) -> Result<Route, AllocError>
     requires each { All (λ r. r.passed.body.wires ≡ wires) rewritten.now }
     requires turns { All (λ r. r.passed.turn < 8) rewritten.now }
-    requires few { cx_count (ops (whole (gates_of rewritten.now))) ≤ 65536 }
+    requires few { cx_count (ops (whole (part_gates rewritten.now))) ≤ 65536 }
     requires fits { wires ≤ device.now.size }
     requires starts { AreStarts device.now.size starts }
     ensures routed { IfOk result (λ r. IsRoute device.now starts clean rewritten.now r.initial r.legs.made.items) }
@@ -490,7 +490,7 @@ fn on_device<T: RunTraces>(
     let Route { initial, legs } = routed_over(
         alloc, traces, wires, rewritten, device, starts, clean,
     )?;
-    let Legs { made, last, trace } = legs;
+    let RoutedParts { made, last, trace } = legs;
     let lengths = lengths_of(alloc, &made)?;
     let barriers = placed_bars(alloc, source, &made)?;
     let swaps = swaps_of(&made);
@@ -515,7 +515,7 @@ fn on_device<T: RunTraces>(
 
 /// What is asked of a program that is written on a device.
 #[derive(Clone, Copy, Debug)]
-pub struct Wishes {
+pub struct RouteOptions {
     /// The trace that shows it is written behind it.
     pub trace: bool,
     /// The report tells of its parts, as its barriers are kept.
@@ -532,7 +532,7 @@ pub fn routed<T: RunTraces>(
     source: &PartedProgram,
     device: &Device,
     starts: Starts,
-    wishes: Wishes,
+    wishes: RouteOptions,
 ) -> Result<Target, AllocError>
     requires fits { source.now.wires ≤ device.now.size }
     requires starts { AreStarts device.now.size starts }

@@ -7,7 +7,7 @@ ghost use Rattle.program_parts.specs.Cuts.{whole};
 ghost use Rattle.routed_parts.specs.Tries.{is_along, expense};
 ghost use Rattle.sabre_route.specs.Ahead.{cx_only};
 ghost use Rattle.unitary_model.specs.Operations.{cx_count};
-ghost use Rattle.circuit_target.specs.Making.{gates_of};
+ghost use Rattle.circuit_target.specs.Making.{part_gates};
 ghost use Rattle.circuit_target.specs.Trying.{AreAllOf, HasBegun, HasChains, IsBestOf, IsExpense, IsLaidOut, IsLookingOver, IsRound, IsTried};
 ghost use Rattle.circuit_target.specs.Trying.{looks_along};
 ghost use Rattle.wire_starts.specs.Starts.{AreStarts};
@@ -135,9 +135,9 @@ fn expense_from(
     lookout: &mut Option<Lookout<'_>>,
 ) -> Result<u64, AllocError>
     requires fits { All (λ r. r.passed.body.wires ≤ device.now.size) rewritten.now }
-    requires few { cx_count (ops (whole (gates_of rewritten.now))) ≤ 65536 }
+    requires few { cx_count (ops (whole (part_gates rewritten.now))) ≤ 65536 }
     requires placed { length given ≡ device.now.size }
-    requires seen { IsLookingOver lookout.old device.now.size (whole (gates_of rewritten.now)) }
+    requires seen { IsLookingOver lookout.old device.now.size (whole (part_gates rewritten.now)) }
     ensures expense { IfOk result (IsExpense device.now (is_some lookout.old) given rewritten.now) }
 {
     // Their contracts say how many qubits a device has at most, and that it has a diameter.
@@ -162,12 +162,12 @@ fn make_try(
     number: u32,
     chains: &AllChains,
 ) -> Result<Tried, AllocError>
-    requires gates { body.now.gates ≡ whole (gates_of rewritten.now) }
+    requires gates { body.now.gates ≡ whole (part_gates rewritten.now) }
     requires each { All (λ r. r.passed.body.wires ≤ device.now.size) rewritten.now }
     requires few { cx_count (ops body.now.gates) ≤ 65536 }
     requires fits { body.now.wires ≤ device.now.size }
     requires chains { is_along number ≡ true → HasChains body.now.wires body.now.gates chains.now.out chains.now.back }
-    ensures tried { IfOk result (λ w. IsTried device.now (gates_of rewritten.now) number w.layout w.expense) }
+    ensures tried { IfOk result (λ w. IsTried device.now (part_gates rewritten.now) number w.layout w.expense) }
     ensures number { IfOk result (λ w. w.number ≡ number) }
     ensures placed { IfOk result (λ w. length w.layout ≡ device.now.size) }
 {
@@ -220,13 +220,13 @@ fn best_try(
     tries: u32,
     chains: &AllChains,
 ) -> Result<Tried, AllocError>
-    requires gates { body.now.gates ≡ whole (gates_of rewritten.now) }
+    requires gates { body.now.gates ≡ whole (part_gates rewritten.now) }
     requires each { All (λ r. r.passed.body.wires ≤ device.now.size) rewritten.now }
     requires few { cx_count (ops body.now.gates) ≤ 65536 }
     requires fits { body.now.wires ≤ device.now.size }
     requires some { 1 ≤ tries }
     requires chains { HasChains body.now.wires body.now.gates chains.now.out chains.now.back }
-    ensures best { IfOk result (λ w. IsBestOf device.now tries (gates_of rewritten.now) w.number w.layout w.expense) }
+    ensures best { IfOk result (λ w. IsBestOf device.now tries (part_gates rewritten.now) w.number w.layout w.expense) }
     ensures placed { IfOk result (λ w. length w.layout ≡ device.now.size) }
 {
     device.facts();
@@ -255,13 +255,13 @@ pub fn begin(
     starts: Starts,
     chains: &AllChains,
 ) -> Result<Begun, AllocError>
-    requires gates { body.now.gates ≡ whole (gates_of rewritten.now) }
+    requires gates { body.now.gates ≡ whole (part_gates rewritten.now) }
     requires each { All (λ r. r.passed.body.wires ≤ device.now.size) rewritten.now }
     requires few { cx_count (ops body.now.gates) ≤ 65536 }
     requires fits { body.now.wires ≤ device.now.size }
     requires starts { AreStarts device.now.size starts }
     requires chains { looks_along starts ≡ true → HasChains body.now.wires body.now.gates chains.now.out chains.now.back }
-    ensures begun { IfOk result (λ b. HasBegun device.now starts (gates_of rewritten.now) b.placement b.along) }
+    ensures begun { IfOk result (λ b. HasBegun device.now starts (part_gates rewritten.now) b.placement b.along) }
     ensures along { IfOk result (λ b. b.along ≡ true → looks_along starts ≡ true) }
     ensures placed { IfOk result (λ b. length b.placement ≡ device.now.size) }
 {

@@ -11,20 +11,20 @@ use Rattle.clap.specs.Words.{App, HasKind, HasMatchesOf, Kinds, Row, fault_of, i
 use Rattle.clap.specs.declared.parser.matches.ArgMatches.{ArgMatches}
 use Rattle.clap.specs.declared.error.Error.{Error}
 use Rattle.clap.specs.declared.error.ErrorKind.TheVariants.{OutOfMemory}
-use Rattle.command_line.specs.Commands.{command_of, meaning, qroute_command}
+use Rattle.command_line.specs.Commands.{command_of, subcommand_meaning, qroute_command}
 use Rattle.command_line.specs.declared.commands.Command.{Command}
 
 pub failed : (ws : List (List ℕ)) → (length (fault_of qroute_command ws) == 0) ≡ false → command_of ws ≡ None
-failed ws e = ap (λ b. if b then option_and_then (λ s. meaning s.0 s.1) (subcommand_of qroute_command ws) else None) e
+failed ws e = ap (λ b. if b then option_and_then (λ s. subcommand_meaning s.0 s.1) (subcommand_of qroute_command ws) else None) e
 
 neither : (b : Bool) → ◌≡◌ {A = Option Command} (if b then None else None) None
 neither true = refl
 neither false = refl
 
-pub unmeant : (ws : List (List ℕ)) (name : List ℕ) (rows : List Row) → subcommand_of qroute_command ws ≡ Some (name, rows) → meaning name rows ≡ None
+pub unmeant : (ws : List (List ℕ)) (name : List ℕ) (rows : List Row) → subcommand_of qroute_command ws ≡ Some (name, rows) → subcommand_meaning name rows ≡ None
     → command_of ws ≡ None
 unmeant ws name rows sub none =
-    ap (λ o. if length (fault_of qroute_command ws) == 0 then option_and_then (λ s. meaning s.0 s.1) o else None) sub
+    ap (λ o. if length (fault_of qroute_command ws) == 0 then option_and_then (λ s. subcommand_meaning s.0 s.1) o else None) sub
     ∙ ap (λ o. if length (fault_of qroute_command ws) == 0 then o else None) none ∙ neither (length (fault_of qroute_command ws) == 0)
 
 pub plain : is_simple qroute_command ≡ true

@@ -41,7 +41,7 @@
 --   route_of rows       what `route` asks for, with what was matched
 --   number_of a b text  the number from a to b whose decimal digits the text is, none where there is none
 --   start_of rows       the number behind `--start`, 0 to 4294967295
---   gates_of rows       the number behind `--gates`, 1 to 20000
+--   gate_count_of rows  the number behind `--gates`, 1 to 20000
 --   has_spares rows     whether a text was matched behind `--spares`
 --   spares_of rows      the number behind `--spares`, 1 to 255
 --   opt_of rows         what `opt` asks for, with what was matched
@@ -55,7 +55,7 @@
 --   own_trace_of rows   the name behind `--trace` of `verify`, none where there is none
 --   verifying_of rows source target   what `verify` asks for of the two texts of these names
 --   verify_of rows      what `verify` asks for, with what was matched
---   meaning name rows   what the subcommand of this name asks for, with what it matched
+--   subcommand_meaning name rows  what the subcommand of this name asks for, with what it matched
 --   command_of words    the command that the words mean, the program's name first; none where they mean none
 --   IsBeginAllowed b    a list has different qubits, and there are 1 to 256 tries
 --   IsAllowed c         `bench` has 1 to 20000 gates, `route` no trace beside kept barriers or cleaning and begins as it may, and
@@ -226,8 +226,8 @@ route_of rows = if clashes rows then None
 abbrev pub start_of : List Row → Option ℕ
 start_of rows = option_and_then (number_of 0 4294967295) (first_of (codes "start") rows)
 
-abbrev pub gates_of : List Row → Option ℕ
-gates_of rows = option_and_then (number_of 1 20000) (first_of (codes "gates") rows)
+abbrev pub gate_count_of : List Row → Option ℕ
+gate_count_of rows = option_and_then (number_of 1 20000) (first_of (codes "gates") rows)
 
 abbrev pub has_spares : List Row → Bool
 has_spares rows = is_some (first_of (codes "spares") rows)
@@ -245,7 +245,7 @@ stages_of rows = if has_spares rows then option_map (λ m. Stages (Some m)) (spa
 
 abbrev pub bench_of : List Row → Option Command
 bench_of rows = option_and_then (λ start. option_and_then (λ gates. option_map (λ device. Bench start gates device)
-    (device_of rows)) (gates_of rows)) (start_of rows)
+    (device_of rows)) (gate_count_of rows)) (start_of rows)
 
 -- 48 is the character 0, 49 is 1
 abbrev pub is_bit : ℕ → Bool
@@ -287,8 +287,8 @@ abbrev pub verify_of : List Row → Option Command
 verify_of rows = option_and_then (λ source. option_map (λ target. Verify (verifying_of rows source target)) (target_of rows))
     (source_of rows)
 
-abbrev pub meaning : Text → List Row → Option Command
-meaning name rows = if bytes_eq name (codes "opt") then opt_of rows
+abbrev pub subcommand_meaning : Text → List Row → Option Command
+subcommand_meaning name rows = if bytes_eq name (codes "opt") then opt_of rows
     else (if bytes_eq name (codes "check") then Some Check
     else (if bytes_eq name (codes "stages") then stages_of rows
     else (if bytes_eq name (codes "bench") then bench_of rows
@@ -299,7 +299,7 @@ meaning name rows = if bytes_eq name (codes "opt") then opt_of rows
 -- none where `clap` finds a fault, and else what the subcommand asks for
 abbrev pub command_of : List Text → Option Command
 command_of words = if length (fault_of qroute_command words) == 0
-    then option_and_then (λ s. meaning s.0 s.1) (subcommand_of qroute_command words) else None
+    then option_and_then (λ s. subcommand_meaning s.0 s.1) (subcommand_of qroute_command words) else None
 
 abbrev pub IsBeginAllowed : Begin → Type 0
 IsBeginAllowed Trivial = Unit {0}

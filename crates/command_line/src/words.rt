@@ -13,7 +13,7 @@ ghost use Rattle.std.specs.Prelude.{◌≡◌, ◌==◌, [], IfOk, IfSome, IsErr
 ghost use Rattle.std.specs.List.{IsDistinct, list_all};
 ghost use Rattle.clap.specs.Words.{app_of, first_of, found_of, kind_of, rows_of, rule_of};
 ghost use Rattle.clap.specs.declared.builder.Command.TheViews.{out-Command as fields_of};
-ghost use Rattle.command_line.specs.Commands.{IsAllowed, IsBeginAllowed, amplitude_command, amplitude_of, begin_of, begins_twice, bench_command, bench_of, bits_of, check_command, checked_command, clashes, clashes_with_trace, command_of, device_commands, entry_commands, flag, has_initial, has_spares, has_tries, if_different, initial_of, is_bit, is_given, meaning, needed_option, number_of, numbers_in, opt_command, opt_of, optional, pieces, placed_command, plain_commands, qroute_command, qubits_of, root_command, route_command, route_of, stages_command, stages_of, texts_command, traced_command, verify_command, verify_of};
+ghost use Rattle.command_line.specs.Commands.{IsAllowed, IsBeginAllowed, amplitude_command, amplitude_of, begin_of, begins_twice, bench_command, bench_of, bits_of, check_command, checked_command, clashes, clashes_with_trace, command_of, device_commands, entry_commands, flag, has_initial, has_spares, has_tries, if_different, initial_of, is_bit, is_given, subcommand_meaning, needed_option, number_of, numbers_in, opt_command, opt_of, optional, pieces, placed_command, plain_commands, qroute_command, qubits_of, root_command, route_command, route_of, stages_command, stages_of, texts_command, traced_command, verify_command, verify_of};
 
 use crate::bits::BitList;
 use crate::commands::{self, Begin, Verifying, WordsFault};
@@ -530,8 +530,8 @@ fn meaning_of(
     name: &str,
     matches: &ArgMatches<'_>,
 ) -> Result<commands::Command, WordsFault>
-    ensures ok { IfOk result (λ c. meaning name.now (rows_of (found_of matches.now)) ≡ Some c) }
-    ensures bad { IsErrOf result WordsFault.BadWords → meaning name.now (rows_of (found_of matches.now)) ≡ None }
+    ensures ok { IfOk result (λ c. subcommand_meaning name.now (rows_of (found_of matches.now)) ≡ Some c) }
+    ensures bad { IsErrOf result WordsFault.BadWords → subcommand_meaning name.now (rows_of (found_of matches.now)) ≡ None }
     ensures allowed { IfOk result IsAllowed }
 {
     if name == "opt" {

@@ -11,8 +11,8 @@ use Rattle.circuit_list.specs.Gates.{op_of, IsFine}
 use Rattle.unitary_model.specs.declared.Op.TheVariants.{U, Cx as OpCx}
 use Rattle.unitary_model.specs.Ring.{Ring, plus, turn1, turn, double, nought, unit}
 use Rattle.unitary_model.specs.Acts.{Bits, applied}
-use Rattle.unitary_model.specs.Paths.{Event, Covers, events, toggle_where_odd}
-use Rattle.unitary_model.specs.Paths.Event.{Toggle}
+use Rattle.unitary_model.specs.Paths.{PathEvent, Covers, events, toggle_where_odd}
+use Rattle.unitary_model.specs.Paths.PathEvent.{Toggle}
 use Rattle.unitary_model.proofs.RingLaws.{turn-turn, turn_wraps, double-turn, double-double}
 use Rattle.unitary_model.proofs.GateActs.{applied_phase}
 use Rattle.unitary_model.proofs.Windows.{Agree, in_place}
@@ -81,7 +81,7 @@ two_phases j k q f x =
 toggles : (j k q : ℕ) → Covers (toggle_where_odd (0 + j) q ++ (toggle_where_odd (0 + k) q ++ [])) (toggle_where_odd (0 + (j + k) % 8) q ++ [])
 toggles j k q = go (nat_eq ((0 + j) % 2) 1) (nat_eq ((0 + k) % 2) 1) (nat_eq ((0 + (j + k) % 8) % 2) 1) refl refl refl
   where
-    front : Bool → List Event
+    front : Bool → List PathEvent
     front b = cond b (Toggle q ∷ []) []
 
     go : (a b c : Bool) → nat_eq ((0 + j) % 2) 1 ≡ a → nat_eq ((0 + k) % 2) 1 ≡ b → nat_eq ((0 + (j + k) % 8) % 2) 1 ≡ c

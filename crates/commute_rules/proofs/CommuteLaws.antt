@@ -13,8 +13,8 @@ use Rattle.unitary_model.specs.declared.Op.{Op}
 use Rattle.unitary_model.specs.declared.Op.TheVariants.{U, Cx as OpCx}
 use Rattle.unitary_model.specs.Ring.{Ring, plus, turn1, turn, double, nought, unit}
 use Rattle.unitary_model.specs.Acts.{Bits, put, applied, Turns}
-use Rattle.unitary_model.specs.Paths.{Event, Covers, events, toggle_where_odd}
-use Rattle.unitary_model.specs.Paths.Event.{Toggle, Add}
+use Rattle.unitary_model.specs.Paths.{PathEvent, Covers, events, toggle_where_odd}
+use Rattle.unitary_model.specs.Paths.PathEvent.{Toggle, Add}
 use Rattle.unitary_model.proofs.RingLaws.{turn-turn, double-turn}
 use Rattle.unitary_model.proofs.GateActs.{applied_phase}
 use Rattle.unitary_model.proofs.RealisedLaws.{applied_cx, flipped_by}
@@ -80,7 +80,7 @@ pair g h = op_of g ∷ op_of h ∷ []
 slid : (g h : Gate) → OffOp (op_of g) (op_of h ∷ []) → Step 0 (pair g h) (pair h g)
 slid g h o = Step_slide (op_of g) (op_of h ∷ []) o
 
-covers_two : (es fs : List Event) → AllE (λ e. AllE (Free e) fs) es → Covers (es ++ (fs ++ [])) (fs ++ (es ++ []))
+covers_two : (es fs : List PathEvent) → AllE (λ e. AllE (Free e) fs) es → Covers (es ++ (fs ++ [])) (fs ++ (es ++ []))
 covers_two es fs h = subst (λ gs. Covers (es ++ gs) (fs ++ (es ++ []))) (sym (append-nil fs)) (subst (λ gs. Covers (es ++ fs) (fs ++ gs)) (sym (append-nil es)) (all_past es fs h))
 
 phases_swap : (k q j r : ℕ) → Covers (events (pair (P k q) (P j r))) (events (pair (P j r) (P k q)))

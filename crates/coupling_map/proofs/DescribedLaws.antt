@@ -15,7 +15,7 @@ use Rattle.coupling_map.specs.Costs.{AreCosts}
 use Rattle.coupling_map.specs.Coupling.{Coupling, IsCoupling, IsGraph}
 use Rattle.coupling_map.specs.Lists.{all_some}
 use Rattle.coupling_map.specs.Refusals.{IsDeviceFault}
-use Rattle.coupling_map.specs.Text.{Outcome, Says, bad_cost, edge_below, edge_cost, ends, entries_of, graph, in_costs, in_format, in_range, in_shape, is_self_edge, outcome_of, priced_of, qubits_of, range, self_edge, shape, size_of, without_self_edge}
+use Rattle.coupling_map.specs.Text.{TableOutcome, Says, bad_cost, edge_below, edge_cost, edge_ends, entries_of, graph, in_costs, in_format, in_range, in_shape, is_self_edge, outcome_of, priced_of, qubit_member, range, self_edge, shape, size_of, without_self_edge}
 use Rattle.coupling_map.specs.Walks.{cheapest, IsConnected, IsJoined, IsLeastApart}
 use Rattle.coupling_map.specs.declared.faults.DeviceFault.{DeviceFault}
 use Rattle.coupling_map.specs.declared.faults.DeviceFault.TheVariants.{Text, Shape, Range, SelfEdge, EdgeCost, NotConnected}
@@ -25,18 +25,18 @@ use Rattle.coupling_map.proofs.TextLaws.{AreCosts-read, IsGraph-read}
 use Rattle.coupling_map.proofs.WalkLaws.{IsWalk-joined}
 
 -- ---- what a table says
-abbrev pub IsSound : Outcome → Type 0
+abbrev pub IsSound : TableOutcome → Type 0
 IsSound shape = Unit {0}
 IsSound range = Unit {0}
 IsSound (self_edge q) = Unit {0}
 IsSound (edge_cost from to) = Unit {0}
 IsSound (graph n es cs) = IsGraph n es × AreCosts es cs
 
-sound-costs : (priced : Bool) (n : ℕ) (es : List (ℕ × ℕ × ℤ)) (o : Option (ℕ × ℕ)) → IsGraph n (map ends es) → IsSound (in_costs priced n es o)
+sound-costs : (priced : Bool) (n : ℕ) (es : List (ℕ × ℕ × ℤ)) (o : Option (ℕ × ℕ)) → IsGraph n (map edge_ends es) → IsSound (in_costs priced n es o)
 sound-costs priced n es None g = (g, AreCosts-read priced es)
 sound-costs priced n es (Some e) g = tt
 
-sound-self : (priced : Bool) (n : ℕ) (es : List (ℕ × ℕ × ℤ)) (o : Option (ℕ × ℕ × ℤ)) → (o ≡ None → IsGraph n (map ends es)) → IsSound (without_self_edge priced n es o)
+sound-self : (priced : Bool) (n : ℕ) (es : List (ℕ × ℕ × ℤ)) (o : Option (ℕ × ℕ × ℤ)) → (o ≡ None → IsGraph n (map edge_ends es)) → IsSound (without_self_edge priced n es o)
 sound-self priced n es None g = sound-costs priced n es (bad_cost priced es) (g refl)
 sound-self priced n es (Some e) g = tt
 
@@ -55,7 +55,7 @@ sound-shape priced (Some x) None = tt
 
 sound-format : (p : Option Bool) (table : Members) → IsSound (in_format p table)
 sound-format None table = tt
-sound-format (Some priced) table = sound-shape priced (qubits_of table) (entries_of priced table)
+sound-format (Some priced) table = sound-shape priced (qubit_member table) (entries_of priced table)
 
 pub sound : (table : Members) → IsSound (outcome_of table)
 sound table = sound-format (priced_of table) table
@@ -100,7 +100,7 @@ by_graph text n es cs says g k = elim (all-joined_or_least n es g.within n (omeg
   | inr least ↦ inr (NotConnected 0 least.0, (n, es, cs, says, refl, least.1))
 ]
 
-by_outcome : (text : List ℕ) (o : Outcome) → Says text o → IsSound o → IsAnswered text
+by_outcome : (text : List ℕ) (o : TableOutcome) → Says text o → IsSound o → IsAnswered text
 by_outcome text shape says s = inr (Shape, says)
 by_outcome text range says s = inr (Range, says)
 by_outcome text (self_edge q) says s = inr (SelfEdge q, says)

@@ -9,15 +9,15 @@ use Rattle.std.proofs.Common.{◌≡◌, ℕ, List, [], Option, Some, refl, sym,
 use Rattle.std.proofs.lemmas.Bool.{cases_eq, cases_lt}
 use Rattle.coupling_map.specs.Coupling.{Coupling, IsCoupling}
 use Rattle.std.specs.Prelude.{IfErr, Result, Ok, Err}
-use Rattle.coupling_map.specs.Refusals.{IsCause, IsDeviceFault, IsGraphCause}
+use Rattle.coupling_map.specs.Refusals.{IsDeviceError, IsDeviceFault, IsGraphCause}
 use Rattle.coupling_map.specs.declared.faults.DeviceError.{DeviceError}
 use Rattle.coupling_map.specs.declared.faults.DeviceError.TheVariants.{NoMemory, Refused}
-use Rattle.coupling_map.specs.Text.{HasNoTable, Outcome, Says, graph, outcome_of, edge_cost, range, self_edge, shape}
+use Rattle.coupling_map.specs.Text.{HasNoTable, TableOutcome, Says, graph, outcome_of, edge_cost, range, self_edge, shape}
 use Rattle.coupling_map.specs.Walks.{IsJoined, IsLeastApart}
 use Rattle.coupling_map.specs.declared.faults.DeviceFault.{DeviceFault}
 use Rattle.coupling_map.specs.declared.faults.DeviceFault.TheVariants.{Text, Shape, Range, SelfEdge, EdgeCost, NotConnected}
 
-pub Says-once : (text : List ℕ) (o p : Outcome) → Says text o → Says text p → o ≡ p
+pub Says-once : (text : List ℕ) (o p : TableOutcome) → Says text o → Says text p → o ≡ p
 Says-once text o p (t, is, e) (u, too, f) =
     let same : t ≡ u = some_same t u (sym is.read ∙ too.read) in
     sym e ∙ ap outcome_of same ∙ f
@@ -25,7 +25,7 @@ Says-once text o p (t, is, e) (u, too, f) =
     some_same : {X : Type 0} (x y : X) → Some x ≡ Some y → x ≡ y
     some_same x y e = cc
 
-pub no_table-says : (text : List ℕ) (o : Outcome) → HasNoTable text → Says text o → ⊥
+pub no_table-says : (text : List ℕ) (o : TableOutcome) → HasNoTable text → Says text o → ⊥
 no_table-says text o none (t, is, e) =
     let no = none is.utf8 in
     let read = is.read in
@@ -41,28 +41,28 @@ IsLeastApart-once n m es p q g h = elim (cases_lt p q) [
 ]
 
 -- ---- what an outcome has
-abbrev said_edges : Outcome → List (ℕ × ℕ)
+abbrev said_edges : TableOutcome → List (ℕ × ℕ)
 said_edges (graph n es cs) = es
 said_edges shape = []
 said_edges range = []
 said_edges (self_edge q) = []
 said_edges (edge_cost from to) = []
 
-abbrev said_size : Outcome → ℕ
+abbrev said_size : TableOutcome → ℕ
 said_size (graph n es cs) = n
 said_size shape = 0
 said_size range = 0
 said_size (self_edge q) = 0
 said_size (edge_cost from to) = 0
 
-abbrev said_qubit : Outcome → ℕ
+abbrev said_qubit : TableOutcome → ℕ
 said_qubit (graph n es cs) = 0
 said_qubit shape = 0
 said_qubit range = 0
 said_qubit (self_edge q) = q
 said_qubit (edge_cost from to) = from
 
-abbrev said_end : Outcome → ℕ
+abbrev said_end : TableOutcome → ℕ
 said_end (graph n es cs) = 0
 said_end shape = 0
 said_end range = 0
@@ -131,7 +131,7 @@ accepted-no_refusal text d (NotConnected from to) says is (n, es, cs, also, firs
     apart.apart joined
 
 -- ---- why the graph of a text is refused
-graph-cause : (text : List ℕ) (n : ℕ) (es : List (ℕ × ℕ)) (cs : Option (List ℕ)) → Says text (graph n es cs) → (e : DeviceError) → IsGraphCause n es e → IsCause text e
+graph-cause : (text : List ℕ) (n : ℕ) (es : List (ℕ × ℕ)) (cs : Option (List ℕ)) → Says text (graph n es cs) → (e : DeviceError) → IsGraphCause n es e → IsDeviceError text e
 graph-cause text n es cs says NoMemory h = tt
 graph-cause text n es cs says (Refused Text) h = absurd h
 graph-cause text n es cs says (Refused Shape) h = absurd h
@@ -140,6 +140,6 @@ graph-cause text n es cs says (Refused (SelfEdge q)) h = absurd h
 graph-cause text n es cs says (Refused (EdgeCost from to)) h = absurd h
 graph-cause text n es cs says (Refused (NotConnected from to)) h = (n, es, cs, says, h.0, h.1)
 
-pub cause-read : {A : Type 0} (text : List ℕ) (n : ℕ) (es : List (ℕ × ℕ)) (cs : Option (List ℕ)) → Says text (graph n es cs) → (r : Result A DeviceError) → IfErr r (IsGraphCause n es) → IfErr r (IsCause text)
+pub cause-read : {A : Type 0} (text : List ℕ) (n : ℕ) (es : List (ℕ × ℕ)) (cs : Option (List ℕ)) → Says text (graph n es cs) → (r : Result A DeviceError) → IfErr r (IsGraphCause n es) → IfErr r (IsDeviceError text)
 cause-read text n es cs says (Ok x) h = tt
 cause-read text n es cs says (Err e) h = graph-cause text n es cs says e h

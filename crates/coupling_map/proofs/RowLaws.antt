@@ -19,13 +19,13 @@ use Rattle.coupling_map.specs.Walks.{is_near, walk_cost, IsWalk, IsJoined, IsDis
 use Rattle.coupling_map.specs.Costs.{most_cost}
 use Rattle.coupling_map.specs.Coupling.{IsGraph}
 use Rattle.coupling_map.specs.Tables.{AreDistances}
-use Rattle.coupling_map.specs.Search.{distance_in, IsReached, IsRow}
+use Rattle.coupling_map.specs.Search.{distance_in, IsReached, IsDistanceRow}
 use Rattle.coupling_map.proofs.WalkLaws.{near_back, is_near-below, IsDistance-by, IsDistance-symmetric, IsWalk-joined}
 
 same_Some : {A : Type 0} (o : Option A) (x y : A) → o ≡ Some x → o ≡ Some y → x ≡ y
 same_Some o x y e f = cc
 
-module _ (n : ℕ) (es : List (ℕ × ℕ)) (w : ℕ → ℕ → ℕ) (top s : ℕ) (row : List (Option ℕ)) (graph : IsGraph n es) (h : IsRow n es w top s row) where
+module _ (n : ℕ) (es : List (ℕ × ℕ)) (w : ℕ → ℕ → ℕ) (top s : ℕ) (row : List (Option ℕ)) (graph : IsGraph n es) (h : IsDistanceRow n es w top s row) where
   no_cheaper : (cs : List ℕ) (y k : ℕ) → IsWalk es y cs s → distance_in row y ≡ Some k → k ≤ walk_cost w y cs
   no_cheaper [] y k g e =
       let z : k ≡ 0 = same_Some (distance_in row y) k 0 e (ap (distance_in row) g ∙ h.start) in
@@ -65,7 +65,7 @@ not_reached : (o : Option ℕ) → is_none o ≡ true → o ≡ None
 not_reached None t = refl
 not_reached (Some k) t = absurd (cc)
 
-pub IsLeastApart-row : (n : ℕ) (es : List (ℕ × ℕ)) (w : ℕ → ℕ → ℕ) (top : ℕ) (row : List (Option ℕ)) (q : ℕ) → IsGraph n es → IsRow n es w top 0 row
+pub IsLeastApart-row : (n : ℕ) (es : List (ℕ × ℕ)) (w : ℕ → ℕ → ℕ) (top : ℕ) (row : List (Option ℕ)) (q : ℕ) → IsGraph n es → IsDistanceRow n es w top 0 row
     → position is_none row ≡ Some q → IsLeastApart n es q
 IsLeastApart-row n es w top row q graph h e =
     let p = position-Some is_none row q None e in
@@ -87,23 +87,23 @@ position-None p xs d e k l =
     not_less : (a b : ℕ) → nat_lt a b ≡ false → b ≤ a
     not_less a b t = grind (arith, nat_tests)
 
-pub joined_all : (n : ℕ) (es : List (ℕ × ℕ)) (w : ℕ → ℕ → ℕ) (top : ℕ) (row : List (Option ℕ)) → IsGraph n es → IsRow n es w top 0 row
+pub joined_all : (n : ℕ) (es : List (ℕ × ℕ)) (w : ℕ → ℕ → ℕ) (top : ℕ) (row : List (Option ℕ)) → IsGraph n es → IsDistanceRow n es w top 0 row
     → position is_none row ≡ None → (b : ℕ) → b < n → IsJoined es 0 b
 joined_all n es w top row graph h e b l = IsJoined-row n es w top 0 row graph h b (reached_some (get_or row b None) (position-None is_none row None e b (omega (arith, l, h.long))))
 
 -- where all are joined to qubit 0, each row has them all
-pub reached_all : (n : ℕ) (es : List (ℕ × ℕ)) (w : ℕ → ℕ → ℕ) (top s : ℕ) (row : List (Option ℕ)) → IsGraph n es → IsRow n es w top s row → s < n
+pub reached_all : (n : ℕ) (es : List (ℕ × ℕ)) (w : ℕ → ℕ → ℕ) (top s : ℕ) (row : List (Option ℕ)) → IsGraph n es → IsDistanceRow n es w top s row → s < n
     → ((b : ℕ) → b < n → IsJoined es 0 b) → (y : ℕ) → y < n → IsReached row y
 reached_all n es w top s row graph h ls all y ly =
     IsReached-row n es w top s row graph h y (IsWalk-joined es 0 s y (all s ls) (all y ly))
 
-pub some_all : (n : ℕ) (es : List (ℕ × ℕ)) (w : ℕ → ℕ → ℕ) (top s : ℕ) (row : List (Option ℕ)) → IsGraph n es → IsRow n es w top s row → s < n
+pub some_all : (n : ℕ) (es : List (ℕ × ℕ)) (w : ℕ → ℕ → ℕ) (top s : ℕ) (row : List (Option ℕ)) → IsGraph n es → IsDistanceRow n es w top s row → s < n
     → ((b : ℕ) → b < n → IsJoined es 0 b) → All (λ o. IsSome o) row
 some_all n es w top s row graph h ls all k d l =
     let r = reached_all n es w top s row graph h ls all k (omega (arith, l, h.long)) in
     subst (λ (o : Option ℕ). IsSome o) (sym (get_or_default row k d None l ∙ r.1)) refl
 
-pub IsHops-row : (n : ℕ) (es : List (ℕ × ℕ)) (top s : ℕ) (row : List (Option ℕ)) → IsGraph n es → IsRow n es (λ x y. 1) top s row → s < n
+pub IsHops-row : (n : ℕ) (es : List (ℕ × ℕ)) (top s : ℕ) (row : List (Option ℕ)) → IsGraph n es → IsDistanceRow n es (λ x y. 1) top s row → s < n
     → ((b : ℕ) → b < n → IsJoined es 0 b) → (q : ℕ) → q < n → IsHops es s q (get_or (map (λ o. unwrap_or o 0) row) q 0)
 IsHops-row n es top s row graph h ls all q lq =
     let k = reached_all n es (λ x y. 1) top s row graph h ls all q lq in
@@ -117,7 +117,7 @@ IsHops-row n es top s row graph h ls all q lq =
 pub AreDistances-none : (n : ℕ) (es : List (ℕ × ℕ)) (w : ℕ → ℕ → ℕ) → AreDistances n es w 0 []
 AreDistances-none n es w = record { long = omega arith; exact = λ a b la lb. absurd (omega arith); short = All-nil (λ k. k + most_cost ≤ n * most_cost) }
 
-pub AreDistances-more : (n : ℕ) (es : List (ℕ × ℕ)) (w : ℕ → ℕ → ℕ) (s : ℕ) (table : List ℕ) (row : List (Option ℕ)) → IsGraph n es → IsRow n es w most_cost s row → s < n
+pub AreDistances-more : (n : ℕ) (es : List (ℕ × ℕ)) (w : ℕ → ℕ → ℕ) (s : ℕ) (table : List ℕ) (row : List (Option ℕ)) → IsGraph n es → IsDistanceRow n es w most_cost s row → s < n
     → ((b : ℕ) → b < n → IsJoined es 0 b) → AreDistances n es w s table → AreDistances n es w (s + 1) (table ++ map (λ o. unwrap_or o 0) row)
 AreDistances-more n es w s table row graph h ls all t = record {
   long = omega (arith, length-append table (map value row), length-map row value, h.long, t.long);

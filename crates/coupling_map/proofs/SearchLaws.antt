@@ -15,7 +15,7 @@ use Rattle.std.proofs.lemmas.List.Sums.{sum_by-set, count_by-le-length}
 use Rattle.std.proofs.lemmas.Bool.{cases_eq, cases_lt}
 use Rattle.coupling_map.specs.Walks.{is_near, walk_cost}
 use Rattle.coupling_map.specs.Coupling.{IsNeighbours}
-use Rattle.coupling_map.specs.Search.{distance_in, mark, marked, reached, work, IsAbove, IsGood, IsRelaxing, IsRow, IsSearched}
+use Rattle.coupling_map.specs.Search.{distance_in, mark, marked, reached_count, work, IsMissingOrAbove, IsGood, IsRelaxing, IsDistanceRow, IsSearched}
 
 up_to : (P : ℕ → Type 0) (i : ℕ) → ((j : ℕ) → j < i → P j) → P i → (j : ℕ) → j < i + 1 → P j
 up_to P i below here j l = elim (cases_eq j i) [
@@ -55,7 +55,7 @@ module _ (row : List (Option ℕ)) (c v : ℕ) (inside : c < length row) where
   ]
 
   -- an entry is lessened at most
-  mark_less : IsAbove v (distance_in row c) → (y m : ℕ) → distance_in row y ≡ Some m → (k : ℕ) × (distance_in (set row c (Some v)) y ≡ Some k) × (k ≤ m)
+  mark_less : IsMissingOrAbove v (distance_in row c) → (y m : ℕ) → distance_in row y ≡ Some m → (k : ℕ) × (distance_in (set row c (Some v)) y ≡ Some k) × (k ≤ m)
   mark_less above y m e = elim (cases_eq y c) [
     | inl s ↦ (
       v,
@@ -65,14 +65,14 @@ module _ (row : List (Option ℕ)) (c v : ℕ) (inside : c < length row) where
     | inr ne ↦ (m, beside_mark y ne ∙ e, omega arith)
   ]
     where
-      less : (o : Option ℕ) → o ≡ Some m → IsAbove v o → v ≤ m
+      less : (o : Option ℕ) → o ≡ Some m → IsMissingOrAbove v o → v ≤ m
       less None f a = absurd (cc)
       less (Some k) f a = let z : k ≡ m = same_Some (Some k) k m refl f in omega (arith, a, z)
 
-  mark_reached : reached row ≤ reached (set row c (Some v))
+  mark_reached : reached_count row ≤ reached_count (set row c (Some v))
   mark_reached = go (distance_in row c) refl
     where
-      go : (o : Option ℕ) → distance_in row c ≡ o → reached row ≤ reached (set row c (Some v))
+      go : (o : Option ℕ) → distance_in row c ≡ o → reached_count row ≤ reached_count (set row c (Some v))
       go None e =
           let s = sum_by-set (λ (o : Option ℕ). cond (is_some o) 1 0) row c (Some v) None inside in
           let f : ◌≡◌ {A = ℕ} (cond (is_some (get_or row c None)) 1 0) 0 = ap (λ (o : Option ℕ). cond (is_some o) 1 0) e in
@@ -82,7 +82,7 @@ module _ (row : List (Option ℕ)) (c v : ℕ) (inside : c < length row) where
           let f : ◌≡◌ {A = ℕ} (cond (is_some (get_or row c None)) 1 0) 1 = ap (λ (o : Option ℕ). cond (is_some o) 1 0) e in
           omega (arith, s, f)
 
-  mark_one_more : distance_in row c ≡ None → reached row + 1 ≡ reached (set row c (Some v))
+  mark_one_more : distance_in row c ≡ None → reached_count row + 1 ≡ reached_count (set row c (Some v))
   mark_one_more e =
       let s = sum_by-set (λ (o : Option ℕ). cond (is_some o) 1 0) row c (Some v) None inside in
       let f : ◌≡◌ {A = ℕ} (cond (is_some (get_or row c None)) 1 0) 0 = ap (λ (o : Option ℕ). cond (is_some o) 1 0) e in
@@ -142,10 +142,10 @@ IsSearched-start n es w top s l = record {
       | inr f ↦ absurd (different k (distance_in empty y) (none y) f.1)
     ]
 
-    one : 0 + top ≤ reached (set empty s (Some 0)) * top
+    one : 0 + top ≤ reached_count (set empty s (Some 0)) * top
     one =
         let more = mark_one_more empty s 0 inside (none s) in
-        let least : 1 ≤ reached (set empty s (Some 0)) = omega (arith, more) in
+        let least : 1 ≤ reached_count (set empty s (Some 0)) = omega (arith, more) in
         omega (arith, mul-le-mul_right top least)
 
 -- ---- a qubit is seen to
@@ -180,7 +180,7 @@ IsRelaxing-keep n es w top s q v near i row marks h r = record {
 
 pub IsRelaxing-lower : (n : ℕ) (es : List (ℕ × ℕ)) (w : ℕ → ℕ → ℕ) (top s q v k : ℕ) (near : List ℕ) (i : ℕ) (row : List (Option ℕ)) (marks : List Bool)
     → IsRelaxing n es w top s q v near i row marks → get_or near i 0 < n → IsTrue (is_near es (get_or near i 0) q) → w (get_or near i 0) q ≤ top
-    → k ≡ v + w (get_or near i 0) q → IsAbove k (distance_in row (get_or near i 0))
+    → k ≡ v + w (get_or near i 0) q → IsMissingOrAbove k (distance_in row (get_or near i 0))
     → IsRelaxing n es w top s q v near (i + 1) (set row (get_or near i 0) (Some k)) (set marks (get_or near i 0) true)
 IsRelaxing-lower n es w top s q v k near i row marks h l t small e above = record {
   good = record {
@@ -199,7 +199,7 @@ IsRelaxing-lower n es w top s q v k near i row marks h l t small e above = recor
       | inr g ↦ h.good.walked y m g.1
     ];
     short = λ y m f. elim (mark_cases row c k inside y m f) [
-      | inl g ↦ let z : k + top ≤ reached (set row c (Some k)) * top = bound (distance_in row c) refl above in omega (arith, z, g.1)
+      | inl g ↦ let z : k + top ≤ reached_count (set row c (Some k)) * top = bound (distance_in row c) refl above in omega (arith, z, g.1)
       | inr g ↦ omega (arith, h.good.short y m g.1, mul-le-mul_right top (mark_reached row c k inside))
     ];
   };
@@ -231,19 +231,19 @@ IsRelaxing-lower n es w top s q v k near i row marks h l t small e above = recor
     place : c < length marks
     place = omega (arith, l, h.as_many)
 
-    least : (o : Option ℕ) → o ≡ Some 0 → IsAbove k o → ⊥
+    least : (o : Option ℕ) → o ≡ Some 0 → IsMissingOrAbove k o → ⊥
     least None f a = cc
     least (Some m) f a = let z : m ≡ 0 = same_Some (Some m) m 0 refl f in omega (arith, a, z)
 
-    itself : (o : Option ℕ) → o ≡ Some v → IsAbove k o → ⊥
+    itself : (o : Option ℕ) → o ≡ Some v → IsMissingOrAbove k o → ⊥
     itself None f a = cc
     itself (Some m) f a = let z : m ≡ v = same_Some (Some m) m v refl f in omega (arith, a, z, e)
 
-    bound : (o : Option ℕ) → distance_in row c ≡ o → IsAbove k o → k + top ≤ reached (set row c (Some k)) * top
+    bound : (o : Option ℕ) → distance_in row c ≡ o → IsMissingOrAbove k o → k + top ≤ reached_count (set row c (Some k)) * top
     bound None f a =
         let more = ap (λ r. r * top) (sym (mark_one_more row c k inside f)) in
-        let next : reached row + 1 ≡ suc (reached row) = omega arith in
-        let product = ap (λ r. r * top) next ∙ suc-mul (reached row) top in
+        let next : reached_count row + 1 ≡ suc (reached_count row) = omega arith in
+        let product = ap (λ r. r * top) next ∙ suc-mul (reached_count row) top in
         omega (arith, more, product, h.good.short q v h.here, e, small)
     bound (Some m) f a = omega (arith, a, h.good.short c m f, mul-le-mul_right top (mark_reached row c k inside))
 
@@ -265,7 +265,7 @@ IsSearched-relaxed n es w top s q v near row marks g h = record {
 }
 
 pub IsRow-searched : (n : ℕ) (es : List (ℕ × ℕ)) (w : ℕ → ℕ → ℕ) (top s : ℕ) (row : List (Option ℕ)) (marks : List Bool)
-    → IsSearched n es w top s row marks → ((y : ℕ) → mark marks y ≡ false) → IsRow n es w top s row
+    → IsSearched n es w top s row marks → ((y : ℕ) → mark marks y ≡ false) → IsDistanceRow n es w top s row
 IsRow-searched n es w top s row marks h none = record {
   long = h.good.long;
   start = h.good.start;
@@ -274,7 +274,7 @@ IsRow-searched n es w top s row marks h none = record {
   short = λ y k e. omega (arith, h.good.short y k e, mul-le-mul_right top few);
 }
   where
-    few : reached row ≤ n
+    few : reached_count row ≤ n
     few = omega (arith, count_by-le-length is_some row, h.good.long)
 
 -- ---- the work
@@ -293,14 +293,14 @@ less-work n a b m k l e =
     let next : a + 1 ≡ suc a = omega arith in
     omega (arith, mul-le-mul_right (n + 1) l, ap (λ x. x * (n + 1)) next ∙ suc-mul a (n + 1), e)
 
-pub work-lower : (n far c v : ℕ) (row : List (Option ℕ)) (marks : List Bool) → c < length row → c < length marks → v < far → IsAbove v (distance_in row c)
+pub work-lower : (n far c v : ℕ) (row : List (Option ℕ)) (marks : List Bool) → c < length row → c < length marks → v < far → IsMissingOrAbove v (distance_in row c)
     → work n far (set row c (Some v)) (set marks c true) ≤ work n far row marks
 unfolding work
 work-lower n far c v row marks l g small above =
     less-work n (sum_by (λ o. unwrap_or o far) (set row c (Some v))) (sum_by (λ o. unwrap_or o far) row) (marked (set marks c true)) (marked marks)
     (less (distance_in row c) refl above) (omega (arith, marked-set marks c true g))
   where
-    less : (o : Option ℕ) → distance_in row c ≡ o → IsAbove v o → sum_by (λ o. unwrap_or o far) (set row c (Some v)) + 1 ≤ sum_by (λ o. unwrap_or o far) row
+    less : (o : Option ℕ) → distance_in row c ≡ o → IsMissingOrAbove v o → sum_by (λ o. unwrap_or o far) (set row c (Some v)) + 1 ≤ sum_by (λ o. unwrap_or o far) row
     less None e a =
         let s = sum_by-set (λ (o : Option ℕ). unwrap_or o far) row c (Some v) None l in
         let f : unwrap_or (get_or row c None) far ≡ far = ap (λ (o : Option ℕ). unwrap_or o far) e in
@@ -314,21 +314,21 @@ work-lower n far c v row marks l g small above =
 pub entry_read : (row : List (Option ℕ)) (q : ℕ) (o : Option ℕ) (v : ℕ) → q < length row → o ≡ get_or row q o → o ≡ Some v → distance_in row q ≡ Some v
 entry_read row q o v l e f = sym (get_or_read row q o l e None) ∙ f
 
-pub above_read : (row : List (Option ℕ)) (q : ℕ) (o : Option ℕ) (v : ℕ) → q < length row → o ≡ get_or row q o → IsAbove v o → IsAbove v (distance_in row q)
-above_read row q o v l e a = subst (IsAbove v) (get_or_read row q o l e None) a
+pub above_read : (row : List (Option ℕ)) (q : ℕ) (o : Option ℕ) (v : ℕ) → q < length row → o ≡ get_or row q o → IsMissingOrAbove v o → IsMissingOrAbove v (distance_in row q)
+above_read row q o v l e a = subst (IsMissingOrAbove v) (get_or_read row q o l e None) a
 
 -- an entry that isn't above v
-pub not_above : (row : List (Option ℕ)) (q : ℕ) (o : Option ℕ) (v : ℕ) → q < length row → o ≡ get_or row q o → (IsAbove v o → ⊥) → (m : ℕ) × (distance_in row q ≡ Some m) × (m ≤ v)
+pub not_above : (row : List (Option ℕ)) (q : ℕ) (o : Option ℕ) (v : ℕ) → q < length row → o ≡ get_or row q o → (IsMissingOrAbove v o → ⊥) → (m : ℕ) × (distance_in row q ≡ Some m) × (m ≤ v)
 not_above row q o v l e na = go o (sym (get_or_read row q o l e None)) na
   where
-    go : (p : Option ℕ) → distance_in row q ≡ p → (IsAbove v p → ⊥) → (m : ℕ) × (distance_in row q ≡ Some m) × (m ≤ v)
+    go : (p : Option ℕ) → distance_in row q ≡ p → (IsMissingOrAbove v p → ⊥) → (m : ℕ) × (distance_in row q ≡ Some m) × (m ≤ v)
     go None f not = absurd (not tt)
     go (Some m) f not = (m, f, elim (cases_lt v m) [ inl lt ↦ absurd (not lt) | inr le ↦ le ])
 
 -- entries are below n * top
 pub entry-short : (n : ℕ) (es : List (ℕ × ℕ)) (w : ℕ → ℕ → ℕ) (top s : ℕ) (row : List (Option ℕ)) (y k : ℕ) → IsGood n es w top s row → distance_in row y ≡ Some k → k + top ≤ n * top
 entry-short n es w top s row y k h e =
-    let few : reached row ≤ n = omega (arith, count_by-le-length is_some row, h.long) in
+    let few : reached_count row ≤ n = omega (arith, count_by-le-length is_some row, h.long) in
     omega (arith, h.short y k e, mul-le-mul_right top few)
 
 -- .. where costs are above 0

@@ -2,7 +2,7 @@
 --   Coupling             the number of qubits, the edges, and their costs
 --   Wiring               the number of qubits, and the edges, alone
 --   cost d               the cost of each near pair
---   format d             the format of its text: 1 without costs, 2 with them;  format_of: the same of the costs alone
+--   format d             the format of its text: 1 without costs, 2 with them;  format_by_costs: the same of the costs alone
 --   dist d a b           the distance of two qubits
 --   IsGraph n es         the edges join different qubits below n, a number from 1 to the limit
 --   IsCoupling d         the edges are a graph, it is connected, and the costs are one for each edge
@@ -34,9 +34,9 @@ pub record Coupling : Type 0 where
 abbrev pub cost : Coupling → ℕ → ℕ → ℕ
 cost d = cost_of d.edges d.costs
 
-abbrev pub format_of : Option (List ℕ) → ℕ
-format_of None = 1
-format_of (Some cs) = 2
+abbrev pub format_by_costs : Option (List ℕ) → ℕ
+format_by_costs None = 1
+format_by_costs (Some cs) = 2
 
 unfoldable pub dist : Coupling → ℕ → ℕ → ℕ
 dist d a b = distance most_cost d.size d.edges (cost d) a b

@@ -1,6 +1,6 @@
 -- Why a text is refused, one equation for each refusal. Want of memory may come at any time.
 --   IsDeviceFault text fault   the text is refused by this fault
---   IsCause text error         the same of an error, which may also be want of memory
+--   IsDeviceError text error   the same of an error, which may also be want of memory
 --   IsDeviceTextCause          the same where no table is read
 --   IsShapeCause               the same where a value has not its shape
 --   IsRangeCause               the same where a number is out of its range
@@ -12,7 +12,7 @@ use Rattle.coupling_map.specs.declared.faults.DeviceFault.{DeviceFault}
 use Rattle.coupling_map.specs.declared.faults.DeviceFault.TheVariants as fault
 use Rattle.coupling_map.specs.declared.faults.DeviceError.{DeviceError}
 use Rattle.coupling_map.specs.declared.faults.DeviceError.TheVariants as error
-use Rattle.coupling_map.specs.Text.{HasNoTable, Outcome, Says, shape, range, self_edge, edge_cost, graph}
+use Rattle.coupling_map.specs.Text.{HasNoTable, TableOutcome, Says, shape, range, self_edge, edge_cost, graph}
 use Rattle.coupling_map.specs.Walks.{IsLeastApart}
 
 abbrev pub IsDeviceFault : List ℕ → DeviceFault → Type 0
@@ -24,9 +24,9 @@ IsDeviceFault text (fault.EdgeCost from to) = Says text (edge_cost from to)
 IsDeviceFault text (fault.NotConnected from to) =
     (n : ℕ) × (es : List (ℕ × ℕ)) × (cs : Option (List ℕ)) × Says text (graph n es cs) × (from ≡ 0) × IsLeastApart n es to
 
-abbrev pub IsCause : List ℕ → DeviceError → Type 0
-IsCause text error.NoMemory = ⊤
-IsCause text (error.Refused f) = IsDeviceFault text f
+abbrev pub IsDeviceError : List ℕ → DeviceError → Type 0
+IsDeviceError text error.NoMemory = ⊤
+IsDeviceError text (error.Refused f) = IsDeviceFault text f
 
 abbrev pub IsDeviceTextCause : List ℕ → DeviceError → Type 0
 IsDeviceTextCause text error.NoMemory = ⊤
@@ -48,7 +48,7 @@ IsCostCause o error.NoMemory = ⊤
 IsCostCause o (error.Refused (fault.EdgeCost from to)) = o ≡ Some (from, to)
 IsCostCause o (error.Refused other) = ⊥
 
-abbrev pub IsTableCause : Outcome → DeviceError → Type 0
+abbrev pub IsTableCause : TableOutcome → DeviceError → Type 0
 IsTableCause o error.NoMemory = ⊤
 IsTableCause o (error.Refused fault.Text) = ⊥
 IsTableCause o (error.Refused fault.Shape) = o ≡ shape

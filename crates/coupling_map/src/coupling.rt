@@ -2,8 +2,8 @@
 
 ghost use Rattle.std.specs.Prelude.{◌≡◌, ◌≢◌, ℕ, ◌+◌, ◌*◌, ◌<◌, ◌≤◌, ◌↔◌, IfErr, IfOk, IsTrue, None, length, option_map, slice_index};
 ghost use Rattle.coupling_map.specs.Costs.{AreCosts, most_cost};
-ghost use Rattle.coupling_map.specs.Coupling.{IsCoupling, IsGraph, IsNeighbours, IsToward, cost, format_of};
-ghost use Rattle.coupling_map.specs.Refusals.{IsCause, IsGraphCause};
+ghost use Rattle.coupling_map.specs.Coupling.{IsCoupling, IsGraph, IsNeighbours, IsToward, cost, format_by_costs};
+ghost use Rattle.coupling_map.specs.Refusals.{IsDeviceError, IsGraphCause};
 ghost use Rattle.coupling_map.specs.Text.{graph, Says};
 ghost use Rattle.coupling_map.specs.Walks.{is_edge, is_near, IsDiameter, IsDistance, IsHops};
 
@@ -94,7 +94,7 @@ impl Device {
 
     /// The format of the device's text: 1 where no costs are listed, else 2.
     pub fn format(&self) -> u32
-        ensures value { result ≡ format_of self.now.costs }
+        ensures value { result ≡ format_by_costs self.now.costs }
     {
         match &self.costs {
             EdgeCosts::Unit(_) => 1,
@@ -187,7 +187,7 @@ pub fn connect(alloc: Global, listed: Listed) -> Result<Device, DeviceError>
 pub fn read_device(alloc: Global, text: &[u8]) -> Result<Device, DeviceError>
     ensures ok { IfOk result (λ d. Says text.now (graph d.size d.edges d.costs)) }
     ensures coupling { IfOk result (λ d. IsCoupling d) }
-    ensures err { IfErr result (IsCause text.now) }
+    ensures err { IfErr result (IsDeviceError text.now) }
 {
     let table = read_table(alloc, text)?;
     let listed = edges_of_table(alloc, &table)?;

@@ -7,7 +7,7 @@ ghost use Rattle.coupling_map.specs.Coupling.{IsGraph};
 ghost use Rattle.coupling_map.specs.Costs.{AreCosts};
 ghost use Rattle.coupling_map.specs.Lists.{all_some};
 ghost use Rattle.coupling_map.specs.Refusals.{IsCostCause, IsDeviceTextCause, IsRangeCause, IsShapeCause, IsTableCause};
-ghost use Rattle.coupling_map.specs.Text.{IsTable, bad_cost, below, cost_in, costs_of, edge_below, ends, entries_of, entry_in, entry_of, graph, is_self_edge, outcome_of, priced_by, priced_of, size_of, three};
+ghost use Rattle.coupling_map.specs.Text.{IsTable, bad_cost, qubit_below, cost_in, costs_of, edge_below, edge_ends, entries_of, entry_in, edge_entry, graph, is_self_edge, outcome_of, priced_by, priced_of, size_of, three};
 
 use crate::faults::{DeviceError, DeviceFault};
 use crate::{MOST_COST, MOST_QUBITS};
@@ -129,7 +129,7 @@ fn entry_of_values(priced: bool, values: &[Value]) -> Option<(i64, i64, i64)>
 /// The ends and the cost of an edge, of an array of two whole numbers or, with a cost, of three.
 #[tactic(auto, using(crate::proofs::Tables::lists))]
 fn entry(priced: bool, value: &Value) -> Option<(i64, i64, i64)>
-    ensures { result ≡ entry_of priced (view value.now) }
+    ensures { result ≡ edge_entry priced (view value.now) }
 {
     match value.as_array() {
         None => None,
@@ -144,8 +144,8 @@ fn entries(
     priced: bool,
     values: &[Value],
 ) -> Result<Vec<(i64, i64, i64)>, DeviceError>
-    ensures ok { IfOk result (λ v. all_some (entry_of priced) (map view values.now) ≡ Some v.items) }
-    ensures err { IfErr result (IsShapeCause (all_some (entry_of priced) (map view values.now))) }
+    ensures ok { IfOk result (λ v. all_some (edge_entry priced) (map view values.now) ≡ Some v.items) }
+    ensures err { IfErr result (IsShapeCause (all_some (edge_entry priced) (map view values.now))) }
 {
     let mut entries = Vec::new(alloc);
     'values: for value in values {
@@ -185,7 +185,7 @@ fn size(x: i64) -> Option<u32>
 
 /// A qubit below `n`.
 fn qubit(n: u32, x: i64) -> Option<u32>
-    ensures { result ≡ below n x }
+    ensures { result ≡ qubit_below n x }
 {
     if x < 0 || x >= i64::from(n) {
         return None;
@@ -279,7 +279,7 @@ fn costs_at(
 
 /// The ends of the edges.
 fn ends_of(alloc: Global, edges: &[(u32, u32, i64)]) -> Result<Vec<(u32, u32)>, DeviceError>
-    ensures ok { IfOk result (λ v. v.items ≡ map ends edges.now) }
+    ensures ok { IfOk result (λ v. v.items ≡ map edge_ends edges.now) }
     ensures err { IfErr result (λ e. e ≡ DeviceError.NoMemory) }
 {
     let mut pairs = Vec::new(alloc);

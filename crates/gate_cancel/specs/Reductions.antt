@@ -1,6 +1,6 @@
 -- Working form.
 -- What reductions do to a circuit that is rewritten. That it is a rewriting is kept by the type; here is the rest.
---   IsReduced x y       each CNOT of the new gates stands in the old ones, and there are fewer gates
+--   IsShortened x y     each CNOT of the new gates stands in the old ones, and there are fewer gates
 --   IsCancelled x y     the same, or nothing has changed
 --   IsReduction x y i s what was done at place i: nothing, since no reducible pair begins there, or reductions
 --   IsSoFar s x y       what was done so far, while the gate is still there
@@ -16,7 +16,7 @@ use Rattle.rewrite_pass.specs.Law.{IsSmallerOrSame, KeepsCnots}
 use Rattle.gate_cancel.specs.declared.reduction.Reduction.{Reduction}
 use Rattle.gate_cancel.specs.declared.reduction.Reduction.TheVariants.{Same, Merged, Gone}
 
-pub record IsReduced (x y : Derivation) : Type 0 where
+pub record IsShortened (x y : Derivation) : Type 0 where
   pub continued : IsContinued x y
   pub cnots : KeepsCnots x.body.gates y.body.gates
   pub fewer : length y.body.gates < length x.body.gates
@@ -28,12 +28,12 @@ pub record IsCancelled (x y : Derivation) : Type 0 where
 
 abbrev pub IsReduction : Derivation → Derivation → ℕ → Reduction → Type 0
 IsReduction x y i Same = (y ≡ x) × ((j : ℕ) → ¬ (IsReducible x.body.gates i j))
-IsReduction x y i Merged = IsReduced x y
-IsReduction x y i Gone = IsReduced x y
+IsReduction x y i Merged = IsShortened x y
+IsReduction x y i Gone = IsShortened x y
 
 abbrev pub IsSoFar : Reduction → Derivation → Derivation → Type 0
 IsSoFar Same x y = y ≡ x
-IsSoFar Merged x y = IsReduced x y
+IsSoFar Merged x y = IsShortened x y
 IsSoFar Gone x y = ⊥
 
 abbrev pub IsStanding : Reduction → Derivation → Derivation → ℕ → Type 0
@@ -51,4 +51,4 @@ place_here b (Some s) = place_of s b.slots
 
 abbrev pub IsWalked : Bool → Derivation → Derivation → ℕ → Type 0
 IsWalked false x y i = (y ≡ x) × ((k j : ℕ) → k < i → ¬ (IsReducible y.body.gates k j))
-IsWalked true x y i = IsReduced x y
+IsWalked true x y i = IsShortened x y

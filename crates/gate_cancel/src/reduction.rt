@@ -3,10 +3,10 @@
 ghost use Rattle.std.specs.Prelude.{◌≡◌, IfOk, OnOk};
 ghost use Rattle.circuit_list.specs.Slots.{IsLive, place_of};
 ghost use Rattle.commute_rules.specs.Reducible.{IsReducible};
-ghost use Rattle.rewrite_pass.specs.Derivations.{IsOutcome};
+ghost use Rattle.rewrite_pass.specs.Derivations.{CancelsTo};
 ghost use Rattle.gate_cancel.specs.declared.search.WireSlots.{WireSlots};
 ghost use Rattle.gate_cancel.specs.Reaches.{IsReach};
-ghost use Rattle.gate_cancel.specs.Reductions.{IsReduced, IsReduction, IsStanding};
+ghost use Rattle.gate_cancel.specs.Reductions.{IsShortened, IsReduction, IsStanding};
 
 use crate::queue::Queue;
 use crate::search::{WireSlots, search};
@@ -31,10 +31,10 @@ fn merge(circuit: &mut Rewriting, first: Slot, second: Slot, k: u8) -> Result<()
     requires first { IsLive circuit.old.body first }
     requires second { IsLive circuit.old.body second }
     requires pair { IsReducible circuit.old.body.gates (place_of first circuit.old.body.slots) (place_of second circuit.old.body.slots) }
-    requires outcome { IsOutcome circuit.old.body.gates (place_of first circuit.old.body.slots) (place_of second circuit.old.body.slots) (Cancel.Merge k) }
+    requires outcome { CancelsTo circuit.old.body.gates (place_of first circuit.old.body.slots) (place_of second circuit.old.body.slots) (Cancel.Merge k) }
     ensures live { OnOk result (IsLive circuit.new.body first) }
     ensures reach { OnOk result ((r : WireSlots) → IsReach circuit.old.body first r → IsReach circuit.new.body first r) }
-    ensures reduced { OnOk result (IsReduced circuit.old circuit.new) }
+    ensures reduced { OnOk result (IsShortened circuit.old circuit.new) }
 {
     circuit.join_at(first, second, k)?;
     Ok(())

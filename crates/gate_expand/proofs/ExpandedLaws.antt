@@ -23,7 +23,7 @@ use Rattle.unitary_model.proofs.TurnsLaws.{Turns_refl, Turns_before, Turns_after
 use Rattle.circuit_list.specs.declared.Gate.{Gate}
 use Rattle.circuit_list.specs.declared.Gate.TheVariants.{H, X, P}
 use Rattle.circuit_list.specs.Gates.{op_of, ops}
-use Rattle.gate_expand.specs.Expansion.{IsFineOp, phase, gates_of, expanded, op_turn, turn_of}
+use Rattle.gate_expand.specs.Expansion.{IsFineOp, phase_gate, gates_of, expanded, op_turn, turn_of}
 use Rattle.gate_expand.proofs.RowLaws.{Turns_gates}
 use Rattle.gate_expand.proofs.PathRows.{SamePaths, SamePaths_same, SamePaths-append, SamePaths_gates, t_count-gates, cx_count-gates}
 
@@ -31,12 +31,12 @@ ops-expanded : (u : Op) (us : List Op) → ops (expanded (u ∷ us)) ≡ ops (ga
 ops-expanded u us = ap ops (flat_map-cons gates_of u us) ∙ map-append op_of (gates_of u) (expanded us)
 
 -- ---- wires
-below_around : (n j k q : ℕ) (G : List Gate) → q < n → WiresBelow n (ops G) → WiresBelow n (ops (phase j q ++ (G ++ phase k q)))
+below_around : (n j k q : ℕ) (G : List Gate) → q < n → WiresBelow n (ops G) → WiresBelow n (ops (phase_gate j q ++ (G ++ phase_gate k q)))
 below_around n j k q G h g =
-    subst (WiresBelow n) (sym (map-append op_of (phase j q) (G ++ phase k q))) (WiresBelow-append n (ops (phase j q)) _ (one j)
-    (subst (WiresBelow n) (sym (map-append op_of G (phase k q))) (WiresBelow-append n (ops G) _ g (one k))))
+    subst (WiresBelow n) (sym (map-append op_of (phase_gate j q) (G ++ phase_gate k q))) (WiresBelow-append n (ops (phase_gate j q)) _ (one j)
+    (subst (WiresBelow n) (sym (map-append op_of G (phase_gate k q))) (WiresBelow-append n (ops G) _ g (one k))))
   where
-    one : (m : ℕ) → WiresBelow n (ops (phase m q))
+    one : (m : ℕ) → WiresBelow n (ops (phase_gate m q))
     one m = go (m % 8 == 0)
       where
         go : (t : Bool) → WiresBelow n (ops (if t then [] else P (m % 8) q ∷ []))
@@ -47,10 +47,10 @@ pub WiresBelow-gates : (n : ℕ) (u : Op) → IsFineOp n u → WiresBelow n (ops
 WiresBelow-gates n (Cx c t) h = (h.0, (h.1.0, tt))
 WiresBelow-gates n (U a b c q) h = go (a == 0) (a == 2) (a == 4) (a == 6)
   where
-    go : (r s t u : Bool) → WiresBelow n (ops (if r then phase (b + c) q else
-        (if s then phase (c + 4) q ++ H q ∷ phase b q else
-        (if t then phase (c + 4) q ++ X q ∷ phase b q else
-        (if u then phase c q ++ H q ∷ phase (b + 4) q else phase (c + 6) q ++ H q ∷ P a q ∷ H q ∷ phase (b + 2) q)))))
+    go : (r s t u : Bool) → WiresBelow n (ops (if r then phase_gate (b + c) q else
+        (if s then phase_gate (c + 4) q ++ H q ∷ phase_gate b q else
+        (if t then phase_gate (c + 4) q ++ X q ∷ phase_gate b q else
+        (if u then phase_gate c q ++ H q ∷ phase_gate (b + 4) q else phase_gate (c + 6) q ++ H q ∷ P a q ∷ H q ∷ phase_gate (b + 2) q)))))
     go true s t u = below_around n 0 (b + c) q [] h.1 tt
     go false true t u = below_around n (c + 4) b q (H q ∷ []) h.1 (h.1, tt)
     go false false true u = below_around n (c + 4) b q (X q ∷ []) h.1 (h.1, tt)

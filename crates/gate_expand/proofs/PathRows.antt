@@ -9,30 +9,30 @@ use Rattle.std.proofs.lemmas.List.{map-append}
 use Rattle.unitary_model.specs.declared.Op.{Op}
 use Rattle.unitary_model.specs.declared.Op.TheVariants.{U, Cx}
 use Rattle.unitary_model.specs.Operations.{t_count, cx_count}
-use Rattle.unitary_model.specs.Paths.{Event, Covers, events, events_of, toggle_where_odd}
-use Rattle.unitary_model.specs.Paths.Event.{Toggle}
+use Rattle.unitary_model.specs.Paths.{PathEvent, Covers, events, events_of, toggle_where_odd}
+use Rattle.unitary_model.specs.Paths.PathEvent.{Toggle}
 use Rattle.unitary_model.proofs.PathLaws.{Covers_refl, Covers_trans, Covers_inside, toggled_twice}
 use Rattle.unitary_model.proofs.PathRules.{toggles_gone}
 use Rattle.unitary_model.proofs.Steps.{events-append, t_count-append, cx_count-append}
 use Rattle.circuit_list.specs.declared.Gate.{Gate}
 use Rattle.circuit_list.specs.declared.Gate.TheVariants.{H, X, P}
 use Rattle.circuit_list.specs.Gates.{op_of, ops}
-use Rattle.gate_expand.specs.Expansion.{IsFineOp, phase, u_gates, gates_of}
+use Rattle.gate_expand.specs.Expansion.{IsFineOp, phase_gate, u_gates, gates_of}
 
 -- ---- events that cover each other
-pub record SamePaths (A B : List Event) : Type 1 where
+pub record SamePaths (A B : List PathEvent) : Type 1 where
   pub there : Covers A B
   pub back : Covers B A
 
-pub SamePaths_same : (A B : List Event) → A ≡ B → SamePaths A B
+pub SamePaths_same : (A B : List PathEvent) → A ≡ B → SamePaths A B
 SamePaths_same A B e = subst (SamePaths A) e (record { there = Covers_refl A; back = Covers_refl A })
 
-covers_both : (A B C D : List Event) → Covers A B → Covers C D → Covers (A ++ C) (B ++ D)
+covers_both : (A B C D : List PathEvent) → Covers A B → Covers C D → Covers (A ++ C) (B ++ D)
 covers_both A B C D f g =
     Covers_trans (A ++ C) (B ++ C) (B ++ D) (Covers_inside [] A B C f)
     (subst (λ es. Covers (B ++ es) (B ++ D)) (append-nil C) (subst (λ es. Covers (B ++ (C ++ [])) (B ++ es)) (append-nil D) (Covers_inside B C D [] g)))
 
-pub SamePaths-append : (A B C D : List Event) → SamePaths A B → SamePaths C D → SamePaths (A ++ C) (B ++ D)
+pub SamePaths-append : (A B C D : List PathEvent) → SamePaths A B → SamePaths C D → SamePaths (A ++ C) (B ++ D)
 SamePaths-append A B C D f g = record { there = covers_both A B C D f.there g.there; back = covers_both B A D C f.back g.back }
 
 -- ---- phases
@@ -42,7 +42,7 @@ no_phase k e = grind (arith, nat_tests)
 same_toggle : (j k q : ℕ) → j % 2 ≡ k % 2 → toggle_where_odd j q ≡ toggle_where_odd k q
 same_toggle j k q e = ap (λ m. cond (nat_eq m 1) (Toggle q ∷ []) []) e
 
-pub events-phase : (k q : ℕ) → events (ops (phase k q)) ≡ toggle_where_odd k q
+pub events-phase : (k q : ℕ) → events (ops (phase_gate k q)) ≡ toggle_where_odd k q
 events-phase k q = go (k % 8 == 0) refl
   where
     even : k % 8 ≡ 0 → 0 % 2 ≡ k % 2
@@ -55,7 +55,7 @@ events-phase k q = go (k % 8 == 0) refl
     go true e = same_toggle 0 k q (even (no_phase k e))
     go false e = append-nil (toggle_where_odd (0 + k % 8) q) ∙ same_toggle (0 + k % 8) k q kept
 
-pub t_count-phase : (k q : ℕ) → t_count (ops (phase k q)) ≡ k % 2
+pub t_count-phase : (k q : ℕ) → t_count (ops (phase_gate k q)) ≡ k % 2
 t_count-phase k q = go (k % 8 == 0) refl
   where
     even : k % 8 ≡ 0 → 0 ≡ k % 2
@@ -65,7 +65,7 @@ t_count-phase k q = go (k % 8 == 0) refl
     go true e = even (no_phase k e)
     go false e = omega arith
 
-pub cx_count-phase : (k q : ℕ) → cx_count (ops (phase k q)) ≡ 0
+pub cx_count-phase : (k q : ℕ) → cx_count (ops (phase_gate k q)) ≡ 0
 cx_count-phase k q = go (k % 8 == 0)
   where
     go : (t : Bool) → cx_count (ops (if t then [] else P (k % 8) q ∷ [])) ≡ 0
@@ -73,29 +73,29 @@ cx_count-phase k q = go (k % 8 == 0)
     go false = refl
 
 -- ---- gates between two phases
-ops-around : (j k q : ℕ) (G : List Gate) → ops (phase j q ++ (G ++ phase k q)) ≡ ops (phase j q) ++ (ops G ++ ops (phase k q))
-ops-around j k q G = map-append op_of (phase j q) (G ++ phase k q) ∙ ap (λ r. ops (phase j q) ++ r) (map-append op_of G (phase k q))
+ops-around : (j k q : ℕ) (G : List Gate) → ops (phase_gate j q ++ (G ++ phase_gate k q)) ≡ ops (phase_gate j q) ++ (ops G ++ ops (phase_gate k q))
+ops-around j k q G = map-append op_of (phase_gate j q) (G ++ phase_gate k q) ∙ ap (λ r. ops (phase_gate j q) ++ r) (map-append op_of G (phase_gate k q))
 
 events-around : (j k b c q : ℕ) (G : List Gate) → j % 2 ≡ c % 2 → k % 2 ≡ b % 2 →
-    events (ops (phase j q ++ (G ++ phase k q))) ≡ toggle_where_odd c q ++ (events (ops G) ++ toggle_where_odd b q)
+    events (ops (phase_gate j q ++ (G ++ phase_gate k q))) ≡ toggle_where_odd c q ++ (events (ops G) ++ toggle_where_odd b q)
 events-around j k b c q G f g =
     ap events (ops-around j k q G)
-    ∙ events-append (ops (phase j q)) (ops G ++ ops (phase k q))
-    ∙ ap (λ r. events (ops (phase j q)) ++ r) (events-append (ops G) (ops (phase k q)))
+    ∙ events-append (ops (phase_gate j q)) (ops G ++ ops (phase_gate k q))
+    ∙ ap (λ r. events (ops (phase_gate j q)) ++ r) (events-append (ops G) (ops (phase_gate k q)))
     ∙ (λ i. (events-phase j q ∙ same_toggle j c q f) i ++ (events (ops G) ++ (events-phase k q ∙ same_toggle k b q g) i))
 
-t_count-around : (j k q : ℕ) (G : List Gate) → t_count (ops (phase j q ++ (G ++ phase k q))) ≡ j % 2 + (t_count (ops G) + k % 2)
+t_count-around : (j k q : ℕ) (G : List Gate) → t_count (ops (phase_gate j q ++ (G ++ phase_gate k q))) ≡ j % 2 + (t_count (ops G) + k % 2)
 t_count-around j k q G =
     ap t_count (ops-around j k q G)
-    ∙ t_count-append (ops (phase j q)) (ops G ++ ops (phase k q))
-    ∙ ap (λ r. t_count (ops (phase j q)) + r) (t_count-append (ops G) (ops (phase k q)))
+    ∙ t_count-append (ops (phase_gate j q)) (ops G ++ ops (phase_gate k q))
+    ∙ ap (λ r. t_count (ops (phase_gate j q)) + r) (t_count-append (ops G) (ops (phase_gate k q)))
     ∙ (λ i. t_count-phase j q i + (t_count (ops G) + t_count-phase k q i))
 
-cx_count-around : (j k q : ℕ) (G : List Gate) → cx_count (ops G) ≡ 0 → cx_count (ops (phase j q ++ (G ++ phase k q))) ≡ 0
+cx_count-around : (j k q : ℕ) (G : List Gate) → cx_count (ops G) ≡ 0 → cx_count (ops (phase_gate j q ++ (G ++ phase_gate k q))) ≡ 0
 cx_count-around j k q G e =
     ap cx_count (ops-around j k q G)
-    ∙ cx_count-append (ops (phase j q)) (ops G ++ ops (phase k q))
-    ∙ ap (λ r. cx_count (ops (phase j q)) + r) (cx_count-append (ops G) (ops (phase k q)))
+    ∙ cx_count-append (ops (phase_gate j q)) (ops G ++ ops (phase_gate k q))
+    ∙ ap (λ r. cx_count (ops (phase_gate j q)) + r) (cx_count-append (ops G) (ops (phase_gate k q)))
     ∙ (λ i. cx_count-phase j q i + (e i + cx_count-phase k q i))
 
 -- ---- the rows
@@ -152,10 +152,10 @@ t_count-row (suc (suc (suc (suc (suc (suc (suc (suc a)))))))) b c q h = absurd (
 cx_count-row : (a b c q : ℕ) → cx_count (ops (u_gates a b c q)) ≡ 0
 cx_count-row a b c q = go (a == 0) (a == 2) (a == 4) (a == 6)
   where
-    go : (r s t u : Bool) → cx_count (ops (if r then phase (b + c) q else
-        (if s then phase (c + 4) q ++ H q ∷ phase b q else
-        (if t then phase (c + 4) q ++ X q ∷ phase b q else
-        (if u then phase c q ++ H q ∷ phase (b + 4) q else phase (c + 6) q ++ H q ∷ P a q ∷ H q ∷ phase (b + 2) q))))) ≡ 0
+    go : (r s t u : Bool) → cx_count (ops (if r then phase_gate (b + c) q else
+        (if s then phase_gate (c + 4) q ++ H q ∷ phase_gate b q else
+        (if t then phase_gate (c + 4) q ++ X q ∷ phase_gate b q else
+        (if u then phase_gate c q ++ H q ∷ phase_gate (b + 4) q else phase_gate (c + 6) q ++ H q ∷ P a q ∷ H q ∷ phase_gate (b + 2) q))))) ≡ 0
     go true s t u = cx_count-phase (b + c) q
     go false true t u = cx_count-around (c + 4) b q (H q ∷ []) refl
     go false false true u = cx_count-around (c + 4) b q (X q ∷ []) refl

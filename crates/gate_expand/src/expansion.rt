@@ -5,7 +5,7 @@ ghost use Rattle.unitary_model.specs.Operations.{t_count, cx_count};
 ghost use Rattle.unitary_model.specs.OddPaths.{odd_paths};
 ghost use Rattle.unitary_model.specs.SameUpTo.{SameUpTo};
 ghost use Rattle.circuit_list.specs.Gates.{most_wires, ops};
-ghost use Rattle.gate_expand.specs.Expansion.{IsFineOp, expanded, gates_of, op_turn, phase, turn_of, u_gates};
+ghost use Rattle.gate_expand.specs.Expansion.{IsFineOp, expanded, gates_of, op_turn, phase_gate, turn_of, u_gates};
 
 use crate::source::Ops;
 use circuit_list::{Circuit, Gate, Passed};
@@ -89,7 +89,7 @@ fn push_u(body: &mut Circuit, a: u8, b: u8, c: u8, q: u32) -> Result<(), AllocEr
 fn push_phase(body: &mut Circuit, k: u8, q: u32) -> Result<(), AllocError>
     requires { q < body.old.wires }
     ensures wires { body.new.wires ≡ body.old.wires }
-    ensures gates { OnOk result (body.new.gates ≡ body.old.gates ++ phase k q) }
+    ensures gates { OnOk result (body.new.gates ≡ body.old.gates ++ phase_gate k q) }
 {
     let k = k % 8;
     if k == 0 {

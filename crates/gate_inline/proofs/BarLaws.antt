@@ -17,12 +17,12 @@ use Rattle.std.proofs.lemmas.List.Sums.{fold-append}
 use Rattle.std.proofs.Math.ListN.{set}
 use Rattle.std.proofs.Math.Seq.{drop-cons}
 use Rattle.gate_library.specs.Names.{has_repeat}
-use Rattle.gate_library.specs.Operands.{times, upto, wire_at, wires_of}
+use Rattle.gate_library.specs.Operands.{wire_number, upto, wire_at, wires_of}
 use Rattle.gate_library.specs.declared.operand.Operand.{Operand}
 use Rattle.gate_inline.specs.Parting.{AreLeft, AreMarked, IsOn, IsOnWires, named_of, with_wire}
-use Rattle.gate_inline.specs.Splits.{IsBar, if_some, once}
+use Rattle.gate_inline.specs.Splits.{IsBarrier, if_some, once}
 use Rattle.program_parts.specs.Cuts.{cut_at, cut_by}
-use Rattle.qasm_check.specs.Steps.{Step, applies, measures, bars, nothing}
+use Rattle.qasm_check.specs.Steps.{BoundStep, applies, measures, barrier_on, nothing}
 
 -- ---- tests
 same_number : (x y : ℕ) → nat_eq x y ≡ true → x ≡ y
@@ -169,7 +169,7 @@ wires-on : (n : ℕ) (ps : List Operand) → All (IsOn n) ps → All (λ w. w < 
 wires-on n [] h = All-nil (λ w. w < n)
 wires-on n (p ∷ ps) h =
     All-append (λ w. w < n) (wires_of p) (flat_map wires_of ps)
-    (All-map (λ w. w < n) (λ j. wire_at j p) (upto (times p)) (upto-all (λ j. wire_at j p < n) (times p) (All-head (IsOn n) p ps h)))
+    (All-map (λ w. w < n) (λ j. wire_at j p) (upto (wire_number p)) (upto-all (λ j. wire_at j p < n) (wire_number p) (All-head (IsOn n) p ps h)))
     (wires-on n ps (All-tail (IsOn n) p ps h))
 
 there : (us ws : List ℕ) → if_some us ≡ Some ws → us ≡ ws
@@ -184,11 +184,11 @@ pub once-some : (ws : List ℕ) → if_some (once [] ws) ≡ option_map (once []
 once-some [] = refl
 once-some (w ∷ ws) = refl
 
-bar-fine : (n : ℕ) (s : Step) (ws : List ℕ) → IsOnWires n s → named_of s ≡ Some ws → IsBar n ws
+bar-fine : (n : ℕ) (s : BoundStep) (ws : List ℕ) → IsOnWires n s → named_of s ≡ Some ws → IsBarrier n ws
 bar-fine n (applies gate angles ps) ws h e = absurd (cc)
 bar-fine n (measures qubit bit) ws h e = absurd (cc)
 bar-fine n nothing ws h e = absurd (cc)
-bar-fine n (bars ps) ws h e =
+bar-fine n (barrier_on ps) ws h e =
     let named : if_some (once [] (flat_map wires_of ps)) ≡ Some ws = once-some (flat_map wires_of ps) ∙ e in
     let same : once [] (flat_map wires_of ps) ≡ ws = there _ ws named in
     record {
@@ -197,10 +197,10 @@ bar-fine n (bars ps) ws h e =
       different = ap (has_repeat nat_eq) (sym same) ∙ once-apart [] (flat_map wires_of ps);
     }
 
-pub bars-fine : (n : ℕ) (steps : List Step) → All (IsOnWires n) steps → All (IsBar n) (cut_at named_of steps).bars
-bars-fine n [] h = All-nil (IsBar n)
+pub bars-fine : (n : ℕ) (steps : List BoundStep) → All (IsOnWires n) steps → All (IsBarrier n) (cut_at named_of steps).bars
+bars-fine n [] h = All-nil (IsBarrier n)
 bars-fine n (s ∷ steps) h = go (named_of s) refl (bars-fine n steps (All-tail (IsOnWires n) s steps h))
   where
-    go : (o : Option (List ℕ)) → named_of s ≡ o → All (IsBar n) (cut_at named_of steps).bars → All (IsBar n) (cut_by o s (cut_at named_of steps)).bars
+    go : (o : Option (List ℕ)) → named_of s ≡ o → All (IsBarrier n) (cut_at named_of steps).bars → All (IsBarrier n) (cut_by o s (cut_at named_of steps)).bars
     go None e rest = rest
-    go (Some ws) e rest = All-cons (IsBar n) ws (cut_at named_of steps).bars (bar-fine n s ws (All-head (IsOnWires n) s steps h) e) rest
+    go (Some ws) e rest = All-cons (IsBarrier n) ws (cut_at named_of steps).bars (bar-fine n s ws (All-head (IsOnWires n) s steps h) e) rest

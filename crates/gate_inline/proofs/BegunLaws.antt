@@ -11,8 +11,8 @@
 use Rattle.std.proofs.Common.{◌≡◌, ℕ, ◌+◌, ◌*◌, ◌<◌, ◌≤◌, List, [], ◌∷◌, ◌++◌, length, refl, sym, ◌∙◌, ap, subst, arith, Ok, IfSome, Option, Some, None, append-nil, drop, map, slice_get, take}
 use Rattle.unitary_model.specs.declared.Op.{Op}
 use Rattle.gate_library.specs.Gates.{BoundGate, u, cx, opaque, composed}
-use Rattle.gate_library.specs.Views.{item as item_view}
-use Rattle.gate_inline.specs.Frames.{body_answer, call_answer, frame_answer, frames_answer, one_frame}
+use Rattle.gate_library.specs.Views.{item_view}
+use Rattle.gate_inline.specs.Frames.{optional_frame_answer, call_answer, frame_answer, frames_answer, one_frame}
 use Rattle.gate_inline.specs.Meanings.{Evaluation, followed, item_answer, joined, meaning_at, meanings}
 use Rattle.gate_inline.specs.Remembered.{AreBegun, IsBegun, IsPart, frame_meaning}
 use Rattle.gate_inline.specs.Sizes.{gate_size, size_at, sizes}
@@ -81,7 +81,7 @@ drop_all [] ops = refl
 drop_all (x ∷ us) ops = drop_all us ops
 
 -- an operation or none, and a body or none, that begins here
-pub AreBegun-entered : (gates : List BoundGate) (us ops : List Op) (c : Evaluation) (fs : List Frame) (o : Option Frame) → AreBegun gates us c fs → c ≡ followed (Ok ops) (body_answer gates o) →
+pub AreBegun-entered : (gates : List BoundGate) (us ops : List Op) (c : Evaluation) (fs : List Frame) (o : Option Frame) → AreBegun gates us c fs → c ≡ followed (Ok ops) (optional_frame_answer gates o) →
     IfSome o (λ f. (f.start ≡ length us) × (frame_meaning gates f ≡ c)) → AreBegun gates (us ++ ops) (Ok []) (fs ++ one_frame o)
 AreBegun-entered gates us ops c fs None h e g =
     subst (λ (xs : List Frame). AreBegun gates (us ++ ops) (Ok []) xs) (sym (append-nil fs))
@@ -181,12 +181,12 @@ pub AreBegun-recalled : (gates : List BoundGate) (us ops : List Op) (c : Evaluat
 AreBegun-recalled gates us ops c fs e h =
     AreBegun-written gates us ops (Ok []) fs (AreBegun-same gates us c (followed (Ok ops) (Ok [])) fs (e ∙ sym (followed-nil (Ok ops))) h)
 
-pub answer_entered : (gates : List BoundGate) (us ops : List Op) (c : Evaluation) (fs new : List Frame) (o : Option Frame) → new ≡ fs ++ one_frame o → c ≡ followed (Ok ops) (body_answer gates o) →
+pub answer_entered : (gates : List BoundGate) (us ops : List Op) (c : Evaluation) (fs new : List Frame) (o : Option Frame) → new ≡ fs ++ one_frame o → c ≡ followed (Ok ops) (optional_frame_answer gates o) →
     followed (Ok (us ++ ops)) (frames_answer gates new) ≡ followed (Ok us) (followed c (frames_answer gates fs))
 answer_entered gates us ops c fs new o n e =
     ap (followed (Ok (us ++ ops))) (ap (frames_answer gates) n ∙ frames_answer-body gates fs o)
-    ∙ followed-followed (Ok us) (Ok ops) (followed (body_answer gates o) (frames_answer gates fs))
-    ∙ ap (followed (Ok us)) (sym (followed-followed (Ok ops) (body_answer gates o) (frames_answer gates fs)) ∙ ap (λ x. followed x (frames_answer gates fs)) (sym e))
+    ∙ followed-followed (Ok us) (Ok ops) (followed (optional_frame_answer gates o) (frames_answer gates fs))
+    ∙ ap (followed (Ok us)) (sym (followed-followed (Ok ops) (optional_frame_answer gates o) (frames_answer gates fs)) ∙ ap (λ x. followed x (frames_answer gates fs)) (sym e))
 
 -- ---- each call has room
 some_size : (ss : List Size) (g : BoundGate) → 0 < 2 * (gate_size ss g).items

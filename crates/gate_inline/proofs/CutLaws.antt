@@ -16,16 +16,16 @@ use Rattle.std.proofs.lemmas.List.Elements.{All-cons, All-head, All-nil, All-tai
 use Rattle.gate_expand.specs.declared.source.Ops.{Ops}
 use Rattle.gate_inline.specs.Inlined.{IsInlined, operations}
 use Rattle.gate_inline.specs.Meanings.{Evaluation, followed, joined, meanings, step_answer}
-use Rattle.gate_inline.specs.Parting.{ended, named_of, so_far}
-use Rattle.gate_inline.specs.Splits.{AreOperations, IsCutBy, IsCutOf, IsSplit, bar_of, cut_of, named_once, once}
+use Rattle.gate_inline.specs.Parting.{ended_at, named_of, so_far}
+use Rattle.gate_inline.specs.Splits.{AreOperations, IsCutBy, IsCutOf, IsSplit, barrier_wires, cut_of, named_once, once}
 use Rattle.gate_inline.specs.declared.parts.Parts.{Parts}
 use Rattle.gate_inline.specs.declared.split.Split.{Split}
 use Rattle.gate_inline.proofs.SizeLaws.{next_views}
 use Rattle.gate_inline.proofs.StepLaws.{joined-push}
 use Rattle.gate_library.specs.Gates.{BoundGate}
-use Rattle.program_parts.specs.Cuts.{Cut, IsCut, before, cut_at, cut_by, uncut, whole}
+use Rattle.program_parts.specs.Cuts.{Cut, IsCut, before_first_part, cut_at, cut_by, uncut, whole}
 use Rattle.qasm_check.specs.Bound.{Bound}
-use Rattle.qasm_check.specs.Steps.{Step, applies, measures, bars, nothing}
+use Rattle.qasm_check.specs.Steps.{BoundStep, applies, measures, barrier_on, nothing}
 use Rattle.unitary_model.specs.declared.Op.{Op}
 
 -- ---- one more at the end
@@ -75,20 +75,20 @@ is_cut {A = A} bar (x ∷ xs) = go (bar x) (cut_at bar xs).parts (cut_at bar xs)
     go (Some ws) parts named e = ap suc e
 
 -- a barrier has no operations
-pub silent : (gates : List BoundGate) (s : Step) (ws : List ℕ) → bar_of s ≡ Some ws → step_answer (meanings gates) s ≡ Ok []
+pub silent : (gates : List BoundGate) (s : BoundStep) (ws : List ℕ) → barrier_wires s ≡ Some ws → step_answer (meanings gates) s ≡ Ok []
 silent gates (applies gate angles places) ws e = absurd (cc)
 silent gates (measures qubit bit) ws e = absurd (cc)
-silent gates (bars places) ws e = refl
+silent gates (barrier_on places) ws e = refl
 silent gates nothing ws e = absurd (cc)
 
-pub silent-named : (gates : List BoundGate) (s : Step) (ws : List ℕ) → named_of s ≡ Some ws → step_answer (meanings gates) s ≡ Ok []
+pub silent-named : (gates : List BoundGate) (s : BoundStep) (ws : List ℕ) → named_of s ≡ Some ws → step_answer (meanings gates) s ≡ Ok []
 silent-named gates (applies gate angles places) ws e = absurd (cc)
 silent-named gates (measures qubit bit) ws e = absurd (cc)
-silent-named gates (bars places) ws e = refl
+silent-named gates (barrier_on places) ws e = refl
 silent-named gates nothing ws e = absurd (cc)
 
-module _ (gates : List BoundGate) (bar : Step → Option (List ℕ)) (silent : (s : Step) (ws : List ℕ) → bar s ≡ Some ws → step_answer (meanings gates) s ≡ Ok []) where
-  operations-more : (steps : List Step) (s : Step) (us vs : List Op) → operations gates steps ≡ Ok us → step_answer (meanings gates) s ≡ Ok vs
+module _ (gates : List BoundGate) (bar : BoundStep → Option (List ℕ)) (silent : (s : BoundStep) (ws : List ℕ) → bar s ≡ Some ws → step_answer (meanings gates) s ≡ Ok []) where
+  operations-more : (steps : List BoundStep) (s : BoundStep) (us vs : List Op) → operations gates steps ≡ Ok us → step_answer (meanings gates) s ≡ Ok vs
       → operations gates (steps ++ s ∷ []) ≡ Ok (us ++ vs)
   operations-more steps s us vs e f =
       ap joined (map-append (step_answer (meanings gates)) steps (s ∷ [])) ∙ joined-push (map (step_answer (meanings gates)) steps) (step_answer (meanings gates) s)
@@ -98,7 +98,7 @@ module _ (gates : List BoundGate) (bar : Step → Option (List ℕ)) (silent : (
   no_list [] us h = h
   no_list (vs ∷ lists) us h = h
 
-  last-operations : (parts : List (List Step)) (lists : List (List Op)) (s : Step) (us vs : List Op) → step_answer (meanings gates) s ≡ Ok vs
+  last-operations : (parts : List (List BoundStep)) (lists : List (List Op)) (s : BoundStep) (us vs : List Op) → step_answer (meanings gates) s ≡ Ok vs
       → AreOperations gates parts (lists ++ us ∷ []) → AreOperations gates (at_last s parts) (lists ++ (us ++ vs) ∷ [])
   last-operations [] lists s us vs e h = absurd (no_list lists us h)
   last-operations (p ∷ []) [] s us vs e h = (operations-more p s us vs h.0 e, tt)
@@ -106,7 +106,7 @@ module _ (gates : List BoundGate) (bar : Step → Option (List ℕ)) (silent : (
   last-operations (p ∷ q ∷ parts) [] s us vs e h = absurd h.1
   last-operations (p ∷ q ∷ parts) (l ∷ lists) s us vs e h = (h.0, last-operations (q ∷ parts) lists s us vs e h.1)
 
-  next-operations : (parts : List (List Step)) (lists : List (List Op)) → AreOperations gates parts lists → AreOperations gates (parts ++ [] ∷ []) (lists ++ [] ∷ [])
+  next-operations : (parts : List (List BoundStep)) (lists : List (List Op)) → AreOperations gates parts lists → AreOperations gates (parts ++ [] ∷ []) (lists ++ [] ∷ [])
   next-operations [] [] h = (refl, tt)
   next-operations [] (l ∷ lists) h = absurd h
   next-operations (p ∷ parts) [] h = absurd h
@@ -116,26 +116,26 @@ module _ (gates : List BoundGate) (bar : Step → Option (List ℕ)) (silent : (
   same_Ok us vs e = cc
 
   -- one step more
-  pub cut-more : (steps : List Step) (s : Step) (lists : List (List Op)) (us vs : List Op) (named : List (List ℕ)) → step_answer (meanings gates) s ≡ Ok vs
+  pub cut-more : (steps : List BoundStep) (s : BoundStep) (lists : List (List Op)) (us vs : List Op) (named : List (List ℕ)) → step_answer (meanings gates) s ≡ Ok vs
       → IsCutBy bar gates steps (record { parts = lists ++ us ∷ []; bars = named })
-      → IsCutBy bar gates (steps ++ s ∷ []) (ended (bar s) (record { parts = lists ++ (us ++ vs) ∷ []; bars = named }))
+      → IsCutBy bar gates (steps ++ s ∷ []) (ended_at (bar s) (record { parts = lists ++ (us ++ vs) ∷ []; bars = named }))
   cut-more steps s lists us vs named e h = go (bar s) refl (cut_at-more bar steps s)
     where
       go : (o : Option (List ℕ)) → bar s ≡ o → cut_at bar (steps ++ s ∷ []) ≡ cut_more o s (cut_at bar steps)
-          → IsCutBy bar gates (steps ++ s ∷ []) (ended o (record { parts = lists ++ (us ++ vs) ∷ []; bars = named }))
+          → IsCutBy bar gates (steps ++ s ∷ []) (ended_at o (record { parts = lists ++ (us ++ vs) ∷ []; bars = named }))
       go None same c = record {
-        parts = subst (λ (d : Cut Step). AreOperations gates d.parts (lists ++ (us ++ vs) ∷ [])) (sym c)
+        parts = subst (λ (d : Cut BoundStep). AreOperations gates d.parts (lists ++ (us ++ vs) ∷ [])) (sym c)
             (last-operations (cut_at bar steps).parts lists s us vs e h.parts);
-        bars = h.bars ∙ ap (λ (d : Cut Step). d.bars) (sym c);
+        bars = h.bars ∙ ap (λ (d : Cut BoundStep). d.bars) (sym c);
       }
       go (Some ws) same c =
           let none : [] ≡ vs = same_Ok [] vs (sym (silent s ws same) ∙ e) in
           let kept : us ≡ us ++ vs = sym (append-nil us) ∙ ap (λ (xs : List Op). us ++ xs) none in
           record {
-            parts = subst (λ (d : Cut Step). AreOperations gates d.parts ((lists ++ (us ++ vs) ∷ []) ++ [] ∷ [])) (sym c)
+            parts = subst (λ (d : Cut BoundStep). AreOperations gates d.parts ((lists ++ (us ++ vs) ∷ []) ++ [] ∷ [])) (sym c)
                 (next-operations (cut_at bar steps).parts (lists ++ (us ++ vs) ∷ [])
                 (subst (λ (xs : List Op). AreOperations gates (cut_at bar steps).parts (lists ++ xs ∷ [])) kept h.parts));
-            bars = ap (λ (bs : List (List ℕ)). bs ++ ws ∷ []) h.bars ∙ ap (λ (d : Cut Step). d.bars) (sym c);
+            bars = ap (λ (bs : List (List ℕ)). bs ++ ws ∷ []) h.bars ∙ ap (λ (d : Cut BoundStep). d.bars) (sym c);
           }
 
   -- ---- the whole
@@ -151,11 +151,11 @@ module _ (gates : List BoundGate) (bar : Step → Option (List ℕ)) (silent : (
   taken_apart (Ok f) (Err r) us e = absurd (cc)
   taken_apart (Err r) b us e = absurd (cc)
 
-  abbrev AreWhole : List Step → List (List Op) → Type 0
+  abbrev AreWhole : List BoundStep → List (List Op) → Type 0
   AreWhole steps lists = operations gates steps ≡ Ok (whole lists)
 
-  in_front : (s : Step) (steps : List Step) (parts : List (List Step)) → ((lists : List (List Op)) → AreOperations gates parts lists → AreWhole steps lists)
-      → (lists : List (List Op)) → AreOperations gates (before s parts) lists → AreWhole (s ∷ steps) lists
+  in_front : (s : BoundStep) (steps : List BoundStep) (parts : List (List BoundStep)) → ((lists : List (List Op)) → AreOperations gates parts lists → AreWhole steps lists)
+      → (lists : List (List Op)) → AreOperations gates (before_first_part s parts) lists → AreWhole (s ∷ steps) lists
   in_front s steps [] later [] h = absurd h
   in_front s steps [] later (us ∷ []) h =
       let f = taken_apart (step_answer (meanings gates) s) (Ok []) us h.0 in
@@ -169,14 +169,14 @@ module _ (gates : List BoundGate) (bar : Step → Option (List ℕ)) (silent : (
       (λ i. followed (f.one i) (later (f.second ∷ lists) (f.other, h.1) i))
       ∙ ap (λ (vs : List Op). Ok vs) (sym (append_assoc f.first f.second (whole lists)) ∙ ap (λ (vs : List Op). vs ++ whole lists) f.both)
 
-  bar_in_front : (s : Step) (ws : List ℕ) (steps : List Step) (parts : List (List Step)) → bar s ≡ Some ws
+  bar_in_front : (s : BoundStep) (ws : List ℕ) (steps : List BoundStep) (parts : List (List BoundStep)) → bar s ≡ Some ws
       → ((lists : List (List Op)) → AreOperations gates parts lists → AreWhole steps lists)
       → (lists : List (List Op)) → AreOperations gates ([] ∷ parts) lists → AreWhole (s ∷ steps) lists
   bar_in_front s ws steps parts e later [] h = absurd h
   bar_in_front s ws steps parts e later (us ∷ lists) h =
       (λ i. followed (silent s ws e i) (later lists h.1 i)) ∙ ap (λ (vs : List Op). Ok (vs ++ whole lists)) (same_Ok [] us h.0)
 
-  pub parts-whole : (steps : List Step) (lists : List (List Op)) → AreOperations gates (cut_at bar steps).parts lists → operations gates steps ≡ Ok (whole lists)
+  pub parts-whole : (steps : List BoundStep) (lists : List (List Op)) → AreOperations gates (cut_at bar steps).parts lists → operations gates steps ≡ Ok (whole lists)
   parts-whole [] [] h = absurd h
   parts-whole [] (us ∷ []) h = ap (λ (vs : List Op). Ok (vs ++ [])) (same_Ok [] us h.0)
   parts-whole [] (us ∷ vs ∷ lists) h = absurd (h.1)
@@ -188,17 +188,17 @@ module _ (gates : List BoundGate) (bar : Step → Option (List ℕ)) (silent : (
       go (Some ws) e h later = bar_in_front s ws steps (cut_at bar steps).parts e later lists h
 
   -- ---- as many parts
-  same_length : (parts : List (List Step)) (lists : List (List Op)) → AreOperations gates parts lists → length lists ≡ length parts
+  same_length : (parts : List (List BoundStep)) (lists : List (List Op)) → AreOperations gates parts lists → length lists ≡ length parts
   same_length [] [] h = refl
   same_length [] (l ∷ lists) h = absurd h
   same_length (p ∷ parts) [] h = absurd h
   same_length (p ∷ parts) (l ∷ lists) h = ap suc (same_length parts lists h.1)
 
-  pub cut-lengths : (steps : List Step) (c : Cut Op) → IsCutBy bar gates steps c → IsCut c
+  pub cut-lengths : (steps : List BoundStep) (c : Cut Op) → IsCutBy bar gates steps c → IsCut c
   cut-lengths steps c h = same_length (cut_at bar steps).parts c.parts h.parts ∙ is_cut bar steps ∙ ap (λ (bs : List (List ℕ)). suc (length bs)) (sym h.bars)
 
   -- ---- one cut at most
-  same_lists : (parts : List (List Step)) (ls ms : List (List Op)) → AreOperations gates parts ls → AreOperations gates parts ms → ls ≡ ms
+  same_lists : (parts : List (List BoundStep)) (ls ms : List (List Op)) → AreOperations gates parts ls → AreOperations gates parts ms → ls ≡ ms
   same_lists [] [] [] h k = refl
   same_lists [] [] (m ∷ ms) h k = absurd k
   same_lists [] (l ∷ ls) ms h k = absurd h
@@ -209,31 +209,31 @@ module _ (gates : List BoundGate) (bar : Step → Option (List ℕ)) (silent : (
       let rest : ls ≡ ms = same_lists parts ls ms h.1 k.1 in
       λ i. here i ∷ rest i
 
-  pub cut-once : (steps : List Step) (c d : Cut Op) → IsCutBy bar gates steps c → IsCutBy bar gates steps d → c ≡ d
+  pub cut-once : (steps : List BoundStep) (c d : Cut Op) → IsCutBy bar gates steps c → IsCutBy bar gates steps d → c ≡ d
   cut-once steps c d h k =
       let same : c.parts ≡ d.parts = same_lists (cut_at bar steps).parts c.parts d.parts h.parts k.parts in
       let named : c.bars ≡ d.bars = h.bars ∙ sym k.bars in
       λ i. record { parts = same i; bars = named i }
 
   -- ---- there is one
-  abbrev HasCut : List Step → List Op → Type 0
+  abbrev HasCut : List BoundStep → List Op → Type 0
   HasCut steps us = (c : Cut Op) × IsCutBy bar gates steps c × (whole c.parts ≡ us)
 
-  front_part : (s : Step) (steps : List Step) (vs us : List Op) (lists : List (List Op)) (parts : List (List Step)) (named : List (List ℕ)) → cut_at bar (s ∷ steps) ≡ cut_by None s (cut_at bar steps)
+  front_part : (s : BoundStep) (steps : List BoundStep) (vs us : List Op) (lists : List (List Op)) (parts : List (List BoundStep)) (named : List (List ℕ)) → cut_at bar (s ∷ steps) ≡ cut_by None s (cut_at bar steps)
       → step_answer (meanings gates) s ≡ Ok vs → AreOperations gates parts lists → (parts ≡ [] → ⊥) → parts ≡ (cut_at bar steps).parts → named ≡ (cut_at bar steps).bars → whole lists ≡ us → HasCut (s ∷ steps) (vs ++ us)
   front_part s steps vs us lists [] named c e h some same n w = absurd (some refl)
   front_part s steps vs us [] (p ∷ parts) named c e h some same n w = absurd h
   front_part s steps vs us (l ∷ lists) (p ∷ parts) named c e h some same n w = (
     record { parts = (vs ++ l) ∷ lists; bars = named },
     record {
-      parts = subst (λ (d : Cut Step). AreOperations gates d.parts ((vs ++ l) ∷ lists)) (sym c)
-          (subst (λ (ps : List (List Step)). AreOperations gates (before s ps) ((vs ++ l) ∷ lists)) same ((λ i. followed (e i) (h.0 i)), h.1));
-      bars = n ∙ ap (λ (d : Cut Step). d.bars) (sym c);
+      parts = subst (λ (d : Cut BoundStep). AreOperations gates d.parts ((vs ++ l) ∷ lists)) (sym c)
+          (subst (λ (ps : List (List BoundStep)). AreOperations gates (before_first_part s ps) ((vs ++ l) ∷ lists)) same ((λ i. followed (e i) (h.0 i)), h.1));
+      bars = n ∙ ap (λ (d : Cut BoundStep). d.bars) (sym c);
     },
     append_assoc vs l (whole lists) ∙ ap (λ (xs : List Op). vs ++ xs) w,
   )
 
-  pub cut-there : (steps : List Step) (us : List Op) → operations gates steps ≡ Ok us → HasCut steps us
+  pub cut-there : (steps : List BoundStep) (us : List Op) → operations gates steps ≡ Ok us → HasCut steps us
   cut-there [] us e = (uncut [], record { parts = (refl, tt); bars = refl }, same_Ok [] us e)
   cut-there (s ∷ steps) us e =
       let f = taken_apart (step_answer (meanings gates) s) (operations gates steps) us e in
@@ -248,8 +248,8 @@ module _ (gates : List BoundGate) (bar : Step → Option (List ℕ)) (silent : (
           let none : [] ≡ vs = same_Ok [] vs (sym (silent s named same) ∙ a) in (
             record { parts = [] ∷ rest.0.parts; bars = named ∷ rest.0.bars },
             record {
-              parts = subst (λ (d : Cut Step). AreOperations gates d.parts ([] ∷ rest.0.parts)) (sym c) (refl, rest.1.parts);
-              bars = ap (λ (bs : List (List ℕ)). named ∷ bs) rest.1.bars ∙ ap (λ (d : Cut Step). d.bars) (sym c);
+              parts = subst (λ (d : Cut BoundStep). AreOperations gates d.parts ([] ∷ rest.0.parts)) (sym c) (refl, rest.1.parts);
+              bars = ap (λ (bs : List (List ℕ)). named ∷ bs) rest.1.bars ∙ ap (λ (d : Cut BoundStep). d.bars) (sym c);
             },
             rest.2 ∙ ap (λ (xs : List Op). xs ++ ws) none,
           )
@@ -268,48 +268,48 @@ next_ops : (a : Evaluation) (us ws : List Op) → ◌≡◌ {A = Evaluation} (Ok
 next_ops (Ok vs) us ws e = (vs, refl, cc)
 next_ops (Err r) us ws e = absurd (cc)
 
-pub cut-next : {X : Type 0} (v : X → Step) (gates : List BoundGate) (xs : List X) (i : ℕ) (x : X) (p q : Parts) (us ws : List Op) → i < length xs → x ≡ get_or xs i x
+pub cut-next : {X : Type 0} (v : X → BoundStep) (gates : List BoundGate) (xs : List X) (i : ℕ) (x : X) (p q : Parts) (us ws : List Op) → i < length xs → x ≡ get_or xs i x
     → p.start ≤ length us → ◌≡◌ {A = Evaluation} (Ok ws) (followed (Ok us) (step_answer (meanings gates) (v x)))
-    → so_far q ws ≡ ended (named_of (v x)) (so_far p ws)
+    → so_far q ws ≡ ended_at (named_of (v x)) (so_far p ws)
     → IsCutBy named_of gates (map v (take i xs)) (so_far p us) → IsCutBy named_of gates (map v (take (i + 1) xs)) (so_far q ws)
 cut-next v gates xs i x p q us ws l here start more made h =
     let n = next_ops (step_answer (meanings gates) (v x)) us ws more in
     let behind : drop p.start us ++ n.0 ≡ drop p.start ws = sym (drop-append-le p.start us n.0 start) ∙ ap (drop p.start) (sym n.2) in
     let lists : List (List Op) = map (λ w. w.items) p.done.items in
     let named : List (List ℕ) = map (λ w. w.items) p.bars.items in
-    subst (λ (steps : List Step). IsCutBy named_of gates steps (so_far q ws)) (sym (next_views v xs i x l here))
+    subst (λ (steps : List BoundStep). IsCutBy named_of gates steps (so_far q ws)) (sym (next_views v xs i x l here))
     (subst (λ (c : Cut Op). IsCutBy named_of gates (map v (take i xs) ++ v x ∷ []) c) (sym made)
-    (subst (λ (ys : List Op). IsCutBy named_of gates (map v (take i xs) ++ v x ∷ []) (ended (named_of (v x)) (record { parts = lists ++ ys ∷ []; bars = named }))) behind
+    (subst (λ (ys : List Op). IsCutBy named_of gates (map v (take i xs) ++ v x ∷ []) (ended_at (named_of (v x)) (record { parts = lists ++ ys ∷ []; bars = named }))) behind
     (cut-more gates named_of (silent-named gates) (map v (take i xs)) (v x) lists (drop p.start us) n.0 named n.1 h)))
 
 -- ---- each wire once
-named-cut : (steps : List Step) → cut_at named_of steps ≡ named_once (cut_at bar_of steps)
+named-cut : (steps : List BoundStep) → cut_at named_of steps ≡ named_once (cut_at barrier_wires steps)
 named-cut [] = refl
-named-cut (s ∷ steps) = ap (cut_by (named_of s) s) (named-cut steps) ∙ go (bar_of s) (cut_at bar_of steps)
+named-cut (s ∷ steps) = ap (cut_by (named_of s) s) (named-cut steps) ∙ go (barrier_wires s) (cut_at barrier_wires steps)
   where
-    go : (o : Option (List ℕ)) (c : Cut Step) → cut_by (option_map (once []) o) s (named_once c) ≡ named_once (cut_by o s c)
+    go : (o : Option (List ℕ)) (c : Cut BoundStep) → cut_by (option_map (once []) o) s (named_once c) ≡ named_once (cut_by o s c)
     go None c = refl
     go (Some ws) c = refl
 
-pub cut-named : (gates : List BoundGate) (steps : List Step) (c : Cut Op) → IsCutBy named_of gates steps c
+pub cut-named : (gates : List BoundGate) (steps : List BoundStep) (c : Cut Op) → IsCutBy named_of gates steps c
     → (d : Cut Op) × IsCutOf gates steps d × (c ≡ named_once d)
 cut-named gates steps c h =
     let same = named-cut steps in (
-      record { parts = c.parts; bars = (cut_at bar_of steps).bars },
-      record { parts = subst (λ (d : Cut Step). AreOperations gates d.parts c.parts) same h.parts; bars = refl },
-      λ i. record { parts = c.parts; bars = (h.bars ∙ ap (λ (d : Cut Step). d.bars) same) i },
+      record { parts = c.parts; bars = (cut_at barrier_wires steps).bars },
+      record { parts = subst (λ (d : Cut BoundStep). AreOperations gates d.parts c.parts) same h.parts; bars = refl },
+      λ i. record { parts = c.parts; bars = (h.bars ∙ ap (λ (d : Cut BoundStep). d.bars) same) i },
     )
 
-pub bars-named : (gates : List BoundGate) (steps : List Step) (c d : Cut Op) → IsCutOf gates steps d → c ≡ named_once d → c.bars ≡ (cut_at named_of steps).bars
+pub bars-named : (gates : List BoundGate) (steps : List BoundStep) (c d : Cut Op) → IsCutOf gates steps d → c ≡ named_once d → c.bars ≡ (cut_at named_of steps).bars
 bars-named gates steps c d is e =
-    ap (λ (x : Cut Op). x.bars) e ∙ ap (map (once [])) is.bars ∙ sym (ap (λ (x : Cut Step). x.bars) (named-cut steps))
+    ap (λ (x : Cut Op). x.bars) e ∙ ap (map (once [])) is.bars ∙ sym (ap (λ (x : Cut BoundStep). x.bars) (named-cut steps))
 
 -- ---- split programs
 pub split-inlined : (b : Bound) (s : Split) (o : Ops) → IsSplit b s → o.wires ≡ s.wires → o.list ≡ whole (cut_of s).parts → o.reads ≡ s.reads.items → IsInlined b o
 split-inlined b s o h w l r = record {
   small = h.small;
   wires = w ∙ h.wires;
-  list = parts-whole b.gates bar_of (silent b.gates) b.steps h.cut.0.parts h.cut.1.parts
+  list = parts-whole b.gates barrier_wires (silent b.gates) b.steps h.cut.0.parts h.cut.1.parts
       ∙ ap (λ (us : List Op). Ok us) (sym (l ∙ ap (λ (c : Cut Op). whole c.parts) h.cut.2));
   reads = r ∙ h.reads;
 }

@@ -9,7 +9,7 @@ use Rattle.std.proofs.lemmas.Bool.{eq-eqb}
 use Rattle.std.proofs.lemmas.Bool.Decides.{nat_tests, eqb_tells}
 use Rattle.std.proofs.lemmas.List.{length-map}
 use Rattle.std.proofs.lemmas.List.Elements.{All-append, All-cons, All-head, All-map, All-nil, All-same, All-tail, All-weaker}
-use Rattle.angle_fraction.specs.Angles.{eighths_of, first_where, is_turn}
+use Rattle.angle_fraction.specs.Angles.{eighths_of, first_where, is_of_steps}
 use Rattle.angle_fraction.specs.declared.Angle.{Angle}
 use Rattle.unitary_model.specs.declared.Op.{Op}
 use Rattle.unitary_model.specs.declared.Op.TheVariants.{U, Cx}
@@ -20,11 +20,11 @@ use Rattle.gate_library.specs.Names.{has_repeat}
 use Rattle.gate_library.specs.Operands.{broadcast, upto, wire_at}
 use Rattle.gate_library.specs.declared.operand.Operand.{Operand}
 use Rattle.qasm_check.specs.Sound.{IsSound, are_gates, is_gate, is_item, is_step}
-use Rattle.qasm_check.specs.Steps.{Step, applies, measures, bars, nothing}
+use Rattle.qasm_check.specs.Steps.{BoundStep, applies, measures, barrier_on, nothing}
 use Rattle.gate_expand.specs.Expansion.{IsFineOp}
 use Rattle.gate_inline.specs.Inlined.{IsFirstUnvalued, IsInlineFault, IsInlineRefused, IsInlined, IsTooMany, operations}
 use Rattle.gate_inline.specs.Reads.{reads}
-use Rattle.gate_inline.specs.Sizes.{is_too_much, total}
+use Rattle.gate_inline.specs.Sizes.{is_too_much, total_size}
 use Rattle.gate_inline.specs.Splits.{IsCutOf, IsSplit, cut_of, named_once}
 use Rattle.gate_inline.specs.declared.split.Split.{Split}
 use Rattle.program_parts.specs.Cuts.{Cut}
@@ -34,7 +34,7 @@ use Rattle.gate_inline.specs.declared.refusal.InlineFault.{InlineFault}
 use Rattle.gate_inline.specs.declared.refusal.InlineFault.TheVariants.{Refused as Refuses, NoMemory}
 use Rattle.gate_inline.specs.declared.stop.AngleRefusal.TheVariants.{NoForm, ByZero, TooLarge, NoStep}
 use Rattle.gate_expand.specs.declared.source.Ops.{Ops}
-use Rattle.gate_inline.specs.Meanings.{Evaluation, Meaning, controlled, eighth, followed, gate_meaning, item_answer, joined, meaning_at, meanings, rotation, step_answer, step_of, unvalued, wire_of}
+use Rattle.gate_inline.specs.Meanings.{Evaluation, Meaning, controlled, eighth, followed, gate_meaning, item_answer, joined, meaning_at, meanings, rotation, step_answer, angle_step, unvalued, wire_of}
 use Rattle.gate_inline.specs.Placed.{IsPlaced}
 use Rattle.linear_forms.specs.Values.{and_next, values}
 use Rattle.gate_inline.specs.declared.stop.AngleRefusal.{AngleRefusal}
@@ -127,10 +127,10 @@ first_small p from (suc n) k e = go (p from) (first_small p (from + 1) n k) e
 
 eighth_small : (a : Angle) (k : ℕ) → eighth a ≡ Ok k → k < 8
 unfolding eighths_of
-eighth_small a k e = go (first_where (is_turn a) 0 8) refl e
+eighth_small a k e = go (first_where (is_of_steps a) 0 8) refl e
   where
-    go : (o : Option ℕ) → first_where (is_turn a) 0 8 ≡ o → step_of o ≡ Ok k → k < 8
-    go (Some j) was e = let same : j ≡ k = cc in let h : j < 0 + 8 = first_small (is_turn a) 0 8 j was in omega arith
+    go : (o : Option ℕ) → first_where (is_of_steps a) 0 8 ≡ o → angle_step o ≡ Ok k → k < 8
+    go (Some j) was e = let same : j ≡ k = cc in let h : j < 0 + 8 = first_small (is_of_steps a) 0 8 j was in omega arith
     go None was e = absurd (cc)
 
 fine_rotation : (n : ℕ) (angles : List Angle) (wires : List ℕ) (us : List Op) → All (λ w. w < n) wires → rotation angles wires ≡ Ok us → All (IsFineOp n) us
@@ -237,10 +237,10 @@ fine_upto n m (suc k) us h e =
 wires_below : (n j : ℕ) (operands : List Operand) → All (λ p. wire_at j p < n) operands → All (λ w. w < n) (map (wire_at j) operands)
 wires_below n j operands h = All-map (λ w. w < n) (wire_at j) operands h
 
-fine_step : (gates : List BoundGate) (wires bits : ℕ) (s : Step) (us : List Op) → AreFine wires gates (meanings gates) → is_step gates wires bits s ≡ true
+fine_step : (gates : List BoundGate) (wires bits : ℕ) (s : BoundStep) (us : List Op) → AreFine wires gates (meanings gates) → is_step gates wires bits s ≡ true
     → step_answer (meanings gates) s ≡ Ok us → All (IsFineOp wires) us
 fine_step gates wires bits (measures qubit bit) us h s e = fine_nil wires us e
-fine_step gates wires bits (bars operands) us h s e = fine_nil wires us e
+fine_step gates wires bits (barrier_on operands) us h s e = fine_nil wires us e
 fine_step gates wires bits nothing us h s e = fine_nil wires us e
 fine_step gates wires bits (applies gate angles operands) us h s e =
     fine_next wires (unvalued (values [] angles)) (λ given. joined (map (λ j. meaning_at (meanings gates) gate given (map (wire_at j) operands)) (upto (broadcast operands)))) us
@@ -250,7 +250,7 @@ fine_step gates wires bits (applies gate angles operands) us h s e =
     (wires_below wires j operands (step_placed gates wires bits (applies gate angles operands) s j l))
     (step_apart gates wires bits gate angles operands s j l) g) f) e
 
-fine_steps : (gates : List BoundGate) (wires bits : ℕ) (steps : List Step) (us : List Op) → AreFine wires gates (meanings gates) → list_all (is_step gates wires bits) steps ≡ true
+fine_steps : (gates : List BoundGate) (wires bits : ℕ) (steps : List BoundStep) (us : List Op) → AreFine wires gates (meanings gates) → list_all (is_step gates wires bits) steps ≡ true
     → joined (map (step_answer (meanings gates)) steps) ≡ Ok us → All (IsFineOp wires) us
 fine_steps gates wires bits [] us h s e = fine_nil wires us e
 fine_steps gates wires bits (x ∷ xs) us h s e =
@@ -262,15 +262,15 @@ pub operations-fine : (b : Bound) (us : List Op) → IsSound b → operations b.
 operations-fine b us s e = fine_steps b.gates b.wires b.bits b.steps us (fine_gates b.wires [] b.gates [] s.gates tt) s.steps e
 
 -- ---- what is told of one program is told of another with the same gates and steps
-moved : (b c : Bound) (P : List BoundGate → List Step → Type 0) → b.gates ≡ c.gates → b.steps ≡ c.steps → P b.gates b.steps → P c.gates c.steps
-moved b c P g s h = subst (λ (gates : List BoundGate). P gates c.steps) g (subst (λ (steps : List Step). P b.gates steps) s h)
+moved : (b c : Bound) (P : List BoundGate → List BoundStep → Type 0) → b.gates ≡ c.gates → b.steps ≡ c.steps → P b.gates b.steps → P c.gates c.steps
+moved b c P g s h = subst (λ (gates : List BoundGate). P gates c.steps) g (subst (λ (steps : List BoundStep). P b.gates steps) s h)
 
 refused_same : (b c : Bound) (r : InlineRefusal) (n : ℕ) → b.gates ≡ c.gates → b.steps ≡ c.steps → IsInlineRefused b r n → IsInlineRefused c r n
 refused_same b c TooManyOps n g s h = moved b c (λ gates steps. IsTooMany gates steps n) g s h
-refused_same b c AngleForm n g s h = moved b c (λ gates steps. (is_too_much (total gates steps) ≡ false) × IsFirstUnvalued gates steps NoForm n) g s h
-refused_same b c AngleZero n g s h = moved b c (λ gates steps. (is_too_much (total gates steps) ≡ false) × IsFirstUnvalued gates steps ByZero n) g s h
-refused_same b c AngleRange n g s h = moved b c (λ gates steps. (is_too_much (total gates steps) ≡ false) × IsFirstUnvalued gates steps TooLarge n) g s h
-refused_same b c AngleStep n g s h = moved b c (λ gates steps. (is_too_much (total gates steps) ≡ false) × IsFirstUnvalued gates steps NoStep n) g s h
+refused_same b c AngleForm n g s h = moved b c (λ gates steps. (is_too_much (total_size gates steps) ≡ false) × IsFirstUnvalued gates steps NoForm n) g s h
+refused_same b c AngleZero n g s h = moved b c (λ gates steps. (is_too_much (total_size gates steps) ≡ false) × IsFirstUnvalued gates steps ByZero n) g s h
+refused_same b c AngleRange n g s h = moved b c (λ gates steps. (is_too_much (total_size gates steps) ≡ false) × IsFirstUnvalued gates steps TooLarge n) g s h
+refused_same b c AngleStep n g s h = moved b c (λ gates steps. (is_too_much (total_size gates steps) ≡ false) × IsFirstUnvalued gates steps NoStep n) g s h
 
 pub fault_same : (b c : Bound) (f : InlineFault) → b.gates ≡ c.gates → b.steps ≡ c.steps → IsInlineFault b f → IsInlineFault c f
 fault_same b c (Refuses r) g s h = refused_same b c r.refusal r.statement g s h
@@ -278,7 +278,7 @@ fault_same b c NoMemory g s h = tt
 
 pub inlined_same : (b c : Bound) (o : Ops) → b.gates ≡ c.gates → b.steps ≡ c.steps → b.wires ≡ c.wires → b.bits ≡ c.bits → IsInlined b o → IsInlined c o
 inlined_same b c o g s w bits i = record {
-  small = moved b c (λ gates steps. is_too_much (total gates steps) ≡ false) g s i.small;
+  small = moved b c (λ gates steps. is_too_much (total_size gates steps) ≡ false) g s i.small;
   wires = i.wires ∙ w;
   list = moved b c (λ gates steps. operations gates steps ≡ Ok o.list) g s i.list;
   reads = i.reads ∙ (λ j. reads (bits j) (s j));
@@ -286,29 +286,29 @@ inlined_same b c o g s w bits i = record {
 
 pub split_same : (b c : Bound) (s : Split) → b.gates ≡ c.gates → b.steps ≡ c.steps → b.wires ≡ c.wires → b.bits ≡ c.bits → IsSplit b s → IsSplit c s
 split_same b c s g steps w bits i = record {
-  small = moved b c (λ gates steps. is_too_much (total gates steps) ≡ false) g steps i.small;
+  small = moved b c (λ gates steps. is_too_much (total_size gates steps) ≡ false) g steps i.small;
   wires = i.wires ∙ w;
   cut = moved b c (λ gates steps. (d : Cut Op) × IsCutOf gates steps d × (cut_of s ≡ named_once d)) g steps i.cut;
   reads = i.reads ∙ (λ j. reads (bits j) (steps j));
 }
 
 -- ---- wires and bits that are there
-placed_wide : (wires bits more : ℕ) (s : Step) → wires ≤ more → IsPlaced wires bits s → IsPlaced more bits s
+placed_wide : (wires bits more : ℕ) (s : BoundStep) → wires ≤ more → IsPlaced wires bits s → IsPlaced more bits s
 placed_wide wires bits more (applies gate angles operands) l s =
     λ j k. All-weaker (λ p. wire_at j p < wires) (λ p. wire_at j p < more) (λ p h. omega arith) operands (s j k)
 placed_wide wires bits more (measures qubit bit) l s =
     (s.0, λ j k. (let h : wire_at j qubit < wires = (s.1 j k).0 in omega arith, (s.1 j k).1))
-placed_wide wires bits more (bars operands) l s = tt
+placed_wide wires bits more (barrier_on operands) l s = tt
 placed_wide wires bits more nothing l s = tt
 
 pub steps_wide : (b : Bound) (more : ℕ) → IsSound b → b.wires ≤ more → All (IsPlaced more b.bits) b.steps
 steps_wide b more s l = All-weaker (IsPlaced b.wires b.bits) (IsPlaced more b.bits) (λ x h. placed_wide b.wires b.bits more x l h) b.steps
     (steps_placed b.gates b.wires b.bits b.steps s.steps)
 
-pub placed_within : (b : Bound) (steps : List Step) (bits : ℕ) → IsSound b → steps ≡ b.steps → bits ≡ b.bits → All (IsPlaced 4294967296 bits) steps
+pub placed_within : (b : Bound) (steps : List BoundStep) (bits : ℕ) → IsSound b → steps ≡ b.steps → bits ≡ b.bits → All (IsPlaced 4294967296 bits) steps
 placed_within b steps bits sound same number =
     let few : b.wires ≤ 4294967296 = (let w : b.wires ≤ most_qubits = sound.wires in omega arith) in
-    subst (λ (xs : List Step). All (IsPlaced 4294967296 bits) xs) (sym same)
+    subst (λ (xs : List BoundStep). All (IsPlaced 4294967296 bits) xs) (sym same)
     (subst (λ n. All (IsPlaced 4294967296 n) b.steps) (sym number) (steps_wide b 4294967296 sound few))
 
 pub fine_ops : (b : Bound) (o : Ops) → IsSound b → IsInlined b o → All (IsFineOp o.wires) o.list

@@ -8,14 +8,14 @@ use Rattle.std.proofs.Common.{◌≡◌, ℕ, ◌+◌, ◌<◌, ◌≤◌, List,
 use Rattle.unitary_model.specs.declared.Op.{Op}
 use Rattle.gate_library.specs.Gates.{BoundGate, Item, composed}
 use Rattle.angle_fraction.specs.declared.Angle.{Angle}
-use Rattle.gate_inline.specs.Frames.{body_answer, body_room, frame_answer, frames_answer, frame_room, frames_room, one_frame}
+use Rattle.gate_inline.specs.Frames.{optional_frame_answer, body_room, frame_answer, frames_answer, frame_room, frames_room, one_frame}
 use Rattle.gate_inline.specs.Meanings.{Evaluation, Meaning, followed, gate_meaning, item_answer, joined, meaning_at, meanings}
 use Rattle.gate_inline.specs.Sizes.{gate_size, item_size, size_all, size_at, sizes}
-use Rattle.gate_library.specs.Views.{item as item_view}
+use Rattle.gate_library.specs.Views.{item_view}
 use Rattle.gate_library.specs.declared.gate.Item.{Item as CodeItem}
 use Rattle.gate_inline.specs.declared.size.Size.{Size}
 use Rattle.gate_inline.proofs.OrderLaws.{meaning_at-below, meaning_at-none, size_at-below, size_at-none}
-use Rattle.gate_inline.specs.Stops.{IsStop}
+use Rattle.gate_inline.specs.Stops.{IsInlineStop}
 use Rattle.gate_inline.specs.declared.body.Frame.{Frame}
 use Rattle.gate_inline.specs.declared.stop.InlineStop.{InlineStop}
 use Rattle.gate_inline.specs.declared.stop.InlineStop.TheVariants.{NoMemory, Angle as Unexact}
@@ -44,7 +44,7 @@ pub frames_room-push : (gates : List BoundGate) (fs : List Frame) (f : Frame) �
 frames_room-push gates [] f = omega arith
 frames_room-push gates (g ∷ fs) f = omega (arith, frames_room-push gates fs f)
 
-pub IsStop_through : (us vs : List Op) (a b c : Evaluation) (e : InlineStop) → followed (Ok us) (followed a b) ≡ followed (Ok vs) c → IsStop a e → IsStop c e
+pub IsStop_through : (us vs : List Op) (a b c : Evaluation) (e : InlineStop) → followed (Ok us) (followed a b) ≡ followed (Ok vs) c → IsInlineStop a e → IsInlineStop c e
 IsStop_through us vs a b c NoMemory h s = tt
 IsStop_through us vs a b (Err q) (Unexact r) h s = go a s h
   where
@@ -58,7 +58,7 @@ IsStop_through us vs a b (Ok ws) (Unexact r) h s = go a s h
     go (Ok xs) g k = absurd (cc)
 
 -- ---- a body, or none, behind the others
-pub frames_answer-body : (gates : List BoundGate) (fs : List Frame) (o : Option Frame) → frames_answer gates (fs ++ one_frame o) ≡ followed (body_answer gates o) (frames_answer gates fs)
+pub frames_answer-body : (gates : List BoundGate) (fs : List Frame) (o : Option Frame) → frames_answer gates (fs ++ one_frame o) ≡ followed (optional_frame_answer gates o) (frames_answer gates fs)
 frames_answer-body gates fs None = ap (frames_answer gates) (append-nil fs) ∙ sym (nil-followed (frames_answer gates fs))
 frames_answer-body gates fs (Some f) = frames_answer-push gates fs f
 
@@ -73,8 +73,8 @@ pub called_op : (gates : List BoundGate) (below i : ℕ) (g : BoundGate) (angles
 called_op gates below i g angles wires a h e = ap (λ m. m angles wires) (meaning_at-below gates below i g h) ∙ e ∙ sym (followed-nil a)
 
 pub called_stop : (gates : List BoundGate) (below i : ℕ) (g : BoundGate) (angles : List Angle) (wires : List ℕ) (s : InlineStop) → slice_get (take below gates) i ≡ Some g →
-    IsStop (gate_meaning (meanings (take i gates)) g angles wires) s → IsStop (meaning_at (meanings (take below gates)) i angles wires) s
-called_stop gates below i g angles wires s h e = subst (λ (m : Meaning). IsStop (m angles wires) s) (sym (meaning_at-below gates below i g h)) e
+    IsInlineStop (gate_meaning (meanings (take i gates)) g angles wires) s → IsInlineStop (meaning_at (meanings (take below gates)) i angles wires) s
+called_stop gates below i g angles wires s h e = subst (λ (m : Meaning). IsInlineStop (m angles wires) s) (sym (meaning_at-below gates below i g h)) e
 
 pub called_body : (gates : List BoundGate) (below i : ℕ) (g : BoundGate) (angles : List Angle) (wires : List ℕ) → slice_get (take below gates) i ≡ Some g →
     meaning_at (meanings (take below gates)) i angles wires ≡ followed (Ok []) (gate_meaning (meanings (take i gates)) g angles wires)
@@ -100,20 +100,20 @@ called_room gates below i params qubits body h =
 -- ---- one line of a body
 -- its operations, those of the rest, and those that wait
 pub advanced : (gates : List BoundGate) (fs kept new : List Frame) (rest body : Option Frame) (us ops : List Op) (A R C : Evaluation) →
-    kept ≡ fs ++ one_frame rest → new ≡ kept ++ one_frame body → body_answer gates rest ≡ R → A ≡ C → C ≡ followed (Ok ops) (body_answer gates body) →
+    kept ≡ fs ++ one_frame rest → new ≡ kept ++ one_frame body → optional_frame_answer gates rest ≡ R → A ≡ C → C ≡ followed (Ok ops) (optional_frame_answer gates body) →
     followed (Ok (us ++ ops)) (frames_answer gates new) ≡ followed (Ok us) (followed (followed A R) (frames_answer gates fs))
 advanced gates fs kept new rest body us ops A R C k n r a e =
     ap (λ xs. followed (Ok (us ++ ops)) (frames_answer gates xs)) n
     ∙ ap (followed (Ok (us ++ ops))) (frames_answer-body gates kept body)
-    ∙ ap (λ xs. followed (Ok (us ++ ops)) (followed (body_answer gates body) (frames_answer gates xs))) k
-    ∙ ap (λ b. followed (Ok (us ++ ops)) (followed (body_answer gates body) b)) (frames_answer-body gates fs rest ∙ ap (λ b. followed b (frames_answer gates fs)) r)
-    ∙ followed-followed (Ok us) (Ok ops) (followed (body_answer gates body) (followed R (frames_answer gates fs)))
-    ∙ ap (followed (Ok us)) (sym (followed-followed (Ok ops) (body_answer gates body) (followed R (frames_answer gates fs)))
+    ∙ ap (λ xs. followed (Ok (us ++ ops)) (followed (optional_frame_answer gates body) (frames_answer gates xs))) k
+    ∙ ap (λ b. followed (Ok (us ++ ops)) (followed (optional_frame_answer gates body) b)) (frames_answer-body gates fs rest ∙ ap (λ b. followed b (frames_answer gates fs)) r)
+    ∙ followed-followed (Ok us) (Ok ops) (followed (optional_frame_answer gates body) (followed R (frames_answer gates fs)))
+    ∙ ap (followed (Ok us)) (sym (followed-followed (Ok ops) (optional_frame_answer gates body) (followed R (frames_answer gates fs)))
     ∙ ap (λ b. followed b (followed R (frames_answer gates fs))) (sym (a ∙ e))
     ∙ sym (followed-followed A R (frames_answer gates fs)))
 
 pub advanced_none : (gates : List BoundGate) (fs kept : List Frame) (rest : Option Frame) (us : List Op) (A R : Evaluation) →
-    kept ≡ fs ++ one_frame rest → body_answer gates rest ≡ R → A ≡ Ok [] →
+    kept ≡ fs ++ one_frame rest → optional_frame_answer gates rest ≡ R → A ≡ Ok [] →
     followed (Ok us) (frames_answer gates kept) ≡ followed (Ok us) (followed (followed A R) (frames_answer gates fs))
 advanced_none gates fs kept rest us A R k r a =
     ap (λ xs. followed (Ok us) (frames_answer gates xs)) k
@@ -131,7 +131,7 @@ pub frame_room-cons : (gates : List BoundGate) (f : Frame) (x : CodeItem) (xs : 
 frame_room-cons gates f x xs e = ap (λ items. 2 * (size_all (map (item_size (sizes (take f.own gates))) (map item_view items))).items + 1) e
 
 -- a refusal of the first part
-pub stop_of_first : (A R B : Evaluation) (s : InlineStop) → B ≡ followed A R → IsStop A s → IsStop B s
+pub stop_of_first : (A R B : Evaluation) (s : InlineStop) → B ≡ followed A R → IsInlineStop A s → IsInlineStop B s
 stop_of_first A R B NoMemory e h = tt
 stop_of_first A R B (Unexact r) e h = e ∙ ap (λ a. followed a R) h
 

@@ -8,7 +8,7 @@ use Rattle.std.specs.Option.{option_map}
 use Rattle.angle_fraction.specs.declared.Angle.{Angle}
 use Rattle.unitary_model.specs.declared.Op.{Op}
 use Rattle.gate_library.specs.Gates.{BoundGate, Item, call, barrier, u, cx, opaque, composed}
-use Rattle.gate_inline.specs.Capped.{capped, most}
+use Rattle.gate_inline.specs.Capped.{capped_size, most}
 use Rattle.gate_inline.specs.Meanings.{Evaluation, Meaning, body_answer, followed, gate_meaning, item_answer, meaning_at, meanings, no_meaning, unvalued, wire_of}
 use Rattle.gate_inline.specs.Remembered.{AreKept, IsKeptPlace, IsPart, part}
 use Rattle.gate_inline.specs.Sizes.{gate_size, item_size, size, size_all, size_at, sizes}
@@ -162,7 +162,7 @@ quiet_within (suc n) gates h i angles ws vs e = go (slice_get gates i) refl (λ 
 capped_nought : (n most : ℕ) → 0 < most → min n most ≡ 0 → n ≡ 0
 capped_nought n most h e = grind arith
 
-pub quiet : (gates : List BoundGate) (ss : List Size) (i : ℕ) (angles : List Angle) (ws vs : List ℕ) → ss ≡ map capped (sizes gates) → (size_at ss i).operations ≡ 0 →
+pub quiet : (gates : List BoundGate) (ss : List Size) (i : ℕ) (angles : List Angle) (ws vs : List ℕ) → ss ≡ map capped_size (sizes gates) → (size_at ss i).operations ≡ 0 →
     meaning_at (meanings gates) i angles ws ≡ meaning_at (meanings gates) i angles vs
 quiet gates ss i angles ws vs same e =
     quiet_within (length gates) gates (omega arith) i angles ws vs
@@ -170,7 +170,7 @@ quiet gates ss i angles ws vs same e =
     (sym (ap (λ (z : Size). z.operations) (ap (λ zs. size_at zs i) same ∙ size_at-capped (sizes gates) i)) ∙ e))
 
 -- ---- two calls of one gate with the same values
-pub same_quiet : (gates : List BoundGate) (ss : List Size) (i j : ℕ) (angles bs : List Angle) (ws vs : List ℕ) → (i ≡ j) × (angles ≡ bs) → (size_at ss j).operations ≡ 0 → ss ≡ map capped (sizes gates) →
+pub same_quiet : (gates : List BoundGate) (ss : List Size) (i j : ℕ) (angles bs : List Angle) (ws vs : List ℕ) → (i ≡ j) × (angles ≡ bs) → (size_at ss j).operations ≡ 0 → ss ≡ map capped_size (sizes gates) →
     meaning_at (meanings gates) i angles ws ≡ meaning_at (meanings gates) j bs vs
 same_quiet gates ss i j angles bs ws vs h e same =
     (λ k. meaning_at (meanings gates) (h.0 k) (h.1 k) ws) ∙ quiet gates ss j bs ws vs same e

@@ -13,11 +13,11 @@ use Rattle.unitary_model.specs.declared.Op.TheVariants.{U, Cx}
 use Rattle.qasm_check.specs.Bound.{Bound}
 use Rattle.gate_library.specs.Gates.{Item, call, barrier, BoundGate, u, cx, opaque, composed}
 use Rattle.gate_library.specs.Operands.{broadcast, upto, wire_at}
-use Rattle.qasm_check.specs.Steps.{Step, applies, measures, bars, nothing}
+use Rattle.qasm_check.specs.Steps.{BoundStep, applies, measures, barrier_on, nothing}
 use Rattle.gate_expand.specs.declared.source.Ops.{Ops}
 use Rattle.gate_inline.specs.Inlined.{IsInlined, operations}
 use Rattle.gate_inline.specs.Meanings.{Evaluation, Meaning, body_answer, controlled, eighth, followed, gate_meaning, item_answer, joined, meaning_at, meanings, no_meaning, rotation, step_answer, unvalued, wire_of}
-use Rattle.gate_inline.specs.Sizes.{gate_size, item_size, most_operations, size, size_all, size_at, sizes, step_size, steps_size, total}
+use Rattle.gate_inline.specs.Sizes.{gate_size, item_size, most_operations, size, size_all, size_at, sizes, step_size, steps_size, total_size}
 use Rattle.linear_forms.specs.Values.{and_next, values}
 use Rattle.gate_inline.specs.declared.size.Size.{Size}
 use Rattle.gate_inline.specs.declared.stop.AngleRefusal.{AngleRefusal}
@@ -140,16 +140,16 @@ upto_at m k (suc n) h =
     let sum : n * k + k ≡ suc n * k = omega arith in
     subst (λ x. AtMost (joined (map m (upto (suc n)))) x) sum (subst (λ a. AtMost a (n * k + k)) (sym more) both)
 
-step_at : (gates : List BoundGate) (s : Step) → AtMost (step_answer (meanings gates) s) (step_size (sizes gates) s).operations
+step_at : (gates : List BoundGate) (s : BoundStep) → AtMost (step_answer (meanings gates) s) (step_size (sizes gates) s).operations
 step_at gates (applies gate angles operands) =
     next_at (unvalued (values [] angles)) _ (broadcast operands * (size_at (sizes gates) gate).operations)
     (λ given. upto_at (λ j. meaning_at (meanings gates) gate given (map (wire_at j) operands)) (size_at (sizes gates) gate).operations (broadcast operands)
     (λ j. gates_at (length gates) gates (omega arith) gate given (map (wire_at j) operands)))
 step_at gates (measures qubit bit) = none_at 0
-step_at gates (bars operands) = none_at 0
+step_at gates (barrier_on operands) = none_at 0
 step_at gates nothing = none_at 0
 
-pub operations-at_most : (gates : List BoundGate) (steps : List Step) → AtMost (operations gates steps) (total gates steps).operations
+pub operations-at_most : (gates : List BoundGate) (steps : List BoundStep) → AtMost (operations gates steps) (total_size gates steps).operations
 operations-at_most gates [] = none_at 0
 operations-at_most gates (s ∷ steps) =
     followed_at (step_answer (meanings gates) s) (joined (map (step_answer (meanings gates)) steps)) (step_size (sizes gates) s).operations
@@ -165,5 +165,5 @@ few_of n b e = go (nat_lt 65536 n) refl e
 pub inlined_short : (b : Bound) (o : Ops) → IsInlined b o → length o.list ≤ most_operations
 inlined_short b o h =
     let most = operations-at_most b.gates b.steps o.list h.list in
-    let few = few_of (total b.gates b.steps).operations _ h.small in
+    let few = few_of (total_size b.gates b.steps).operations _ h.small in
     omega (arith, most, few)

@@ -7,11 +7,11 @@ use Rattle.std.proofs.lemmas.Bool.Decides.{nat_tests}
 use Rattle.std.proofs.lemmas.List.{map-append}
 use Rattle.qasm_check.specs.Bound.{Bound}
 use Rattle.gate_library.specs.Gates.{BoundGate}
-use Rattle.qasm_check.specs.Steps.{Step}
+use Rattle.qasm_check.specs.Steps.{BoundStep}
 use Rattle.gate_expand.specs.declared.source.Ops.{Ops}
 use Rattle.gate_inline.specs.Inlined.{IsFirstUnvalued, IsInlineFault, IsInlineRefused, IsInlined, IsTooMany, operations, refusal_of}
 use Rattle.gate_inline.specs.Meanings.{Evaluation, followed, joined, meanings, step_answer}
-use Rattle.gate_inline.specs.Sizes.{is_too_much, size_plus, sizes, step_size, total}
+use Rattle.gate_inline.specs.Sizes.{is_too_much, size_plus, sizes, step_size, total_size}
 use Rattle.gate_inline.specs.declared.refusal.InlineFault.{InlineFault}
 use Rattle.gate_inline.specs.declared.refusal.InlineFault.TheVariants.{Refused as Refuses, NoMemory}
 use Rattle.gate_inline.specs.declared.refusal.InlineRefusal.{InlineRefusal}
@@ -24,7 +24,7 @@ use Rattle.gate_inline.proofs.SizeLaws.{size_all-append}
 use Rattle.gate_inline.proofs.StepLaws.{joined-append}
 
 -- ---- sizes
-total-append : (gates : List BoundGate) (xs ys : List Step) → total gates (xs ++ ys) ≡ size_plus (total gates xs) (total gates ys)
+total-append : (gates : List BoundGate) (xs ys : List BoundStep) → total_size gates (xs ++ ys) ≡ size_plus (total_size gates xs) (total_size gates ys)
 total-append gates xs ys =
     let parts = map-append (step_size (sizes gates)) xs ys in
     let sum = size_all-append (map (step_size (sizes gates)) xs) (map (step_size (sizes gates)) ys) in
@@ -42,19 +42,19 @@ fewer s t e = both (nat_lt 65536 (s.operations + t.operations)) (nat_lt 1048576 
         rw (left, right) refl
 
 -- what goes on from a part is no less than the part
-fine_part : (gates : List BoundGate) (xs ys : List Step) → is_too_much (total gates (xs ++ ys)) ≡ false → is_too_much (total gates xs) ≡ false
-fine_part gates xs ys e = fewer (total gates xs) (total gates ys) (rw (total-append gates xs ys) at e)
+fine_part : (gates : List BoundGate) (xs ys : List BoundStep) → is_too_much (total_size gates (xs ++ ys)) ≡ false → is_too_much (total_size gates xs) ≡ false
+fine_part gates xs ys e = fewer (total_size gates xs) (total_size gates ys) (rw (total-append gates xs ys) at e)
 
-pub over_or_fine : (gates : List BoundGate) (xs : List Step) → is_too_much (total gates xs) ≡ true → is_too_much (total gates xs) ≡ false → ⊥
+pub over_or_fine : (gates : List BoundGate) (xs : List BoundStep) → is_too_much (total_size gates xs) ≡ true → is_too_much (total_size gates xs) ≡ false → ⊥
 over_or_fine gates xs e f = let h : true ≡ false = sym e ∙ f in cc
 
-none_too_many : (gates : List BoundGate) (steps : List Step) (n : ℕ) → is_too_much (total gates steps) ≡ false → IsTooMany gates steps n → ⊥
+none_too_many : (gates : List BoundGate) (steps : List BoundStep) (n : ℕ) → is_too_much (total_size gates steps) ≡ false → IsTooMany gates steps n → ⊥
 none_too_many gates steps n small (before, s, rest, split, at, fine, over) =
     let whole : steps ≡ (before ++ s ∷ []) ++ rest = split ∙ sym (append_assoc before (s ∷ []) rest) in
     over_or_fine gates (before ++ s ∷ []) over (fine_part gates (before ++ s ∷ []) rest (rw whole at small))
 
 -- ---- answers
-pub operations-append : (gates : List BoundGate) (xs ys : List Step) → operations gates (xs ++ ys) ≡ followed (operations gates xs) (operations gates ys)
+pub operations-append : (gates : List BoundGate) (xs ys : List BoundStep) → operations gates (xs ++ ys) ≡ followed (operations gates xs) (operations gates ys)
 operations-append gates xs ys =
     ap joined (map-append (step_answer (meanings gates)) xs ys)
     ∙ joined-append (map (step_answer (meanings gates)) xs) (map (step_answer (meanings gates)) ys)
@@ -69,7 +69,7 @@ first_part (Ok us) b h = refl
 first_part (Err x) b h = h
 
 -- with a step that has no answer there is none
-unvalued_part : (gates : List BoundGate) (before : List Step) (s : Step) (e : AngleRefusal) → IsOk (operations gates before) → step_answer (meanings gates) s ≡ Err e
+unvalued_part : (gates : List BoundGate) (before : List BoundStep) (s : BoundStep) (e : AngleRefusal) → IsOk (operations gates before) → step_answer (meanings gates) s ≡ Err e
     → IsOk (operations gates (before ++ s ∷ [])) → ⊥
 unvalued_part gates before s e ok is all =
     let alone : operations gates (s ∷ []) ≡ Err e = by_step (step_answer (meanings gates) s) is in
@@ -79,10 +79,10 @@ unvalued_part gates before s e ok is all =
     by_step (Ok us) is = cc
     by_step (Err x) is = is
 
-ok_part : (gates : List BoundGate) (xs ys : List Step) → IsOk (operations gates (xs ++ ys)) → IsOk (operations gates xs)
+ok_part : (gates : List BoundGate) (xs ys : List BoundStep) → IsOk (operations gates (xs ++ ys)) → IsOk (operations gates xs)
 ok_part gates xs ys h = first_part (operations gates xs) (operations gates ys) (subst IsOk (operations-append gates xs ys) h)
 
-none_unvalued : (gates : List BoundGate) (steps : List Step) (e : AngleRefusal) (n : ℕ) → IsOk (operations gates steps) → IsFirstUnvalued gates steps e n → ⊥
+none_unvalued : (gates : List BoundGate) (steps : List BoundStep) (e : AngleRefusal) (n : ℕ) → IsOk (operations gates steps) → IsFirstUnvalued gates steps e n → ⊥
 none_unvalued gates steps e n ok (before, s, rest, split, at, fine, is) =
     let whole : steps ≡ (before ++ s ∷ []) ++ rest = split ∙ sym (append_assoc before (s ∷ []) rest) in
     unvalued_part gates before s e fine is (ok_part gates (before ++ s ∷ []) rest (subst (λ xs. IsOk (operations gates xs)) whole ok))
@@ -103,10 +103,10 @@ inlined-no_fault b o (Refuses r) h f = absurd (by_refusal r.refusal f)
     by_refusal AngleStep f = none_unvalued b.gates b.steps NoStep r.statement (is_ok _ o.list h.list) f.1
 
 -- ---- two splits of one list
-abbrev Splits : List Step → Step → List Step → Step → Type 0
-Splits b s c t = ((length b ≡ length c) × (s ≡ t)) ⊎ (((mid : List Step) × (c ≡ (b ++ s ∷ []) ++ mid)) ⊎ ((mid : List Step) × (b ≡ (c ++ t ∷ []) ++ mid)))
+abbrev Splits : List BoundStep → BoundStep → List BoundStep → BoundStep → Type 0
+Splits b s c t = ((length b ≡ length c) × (s ≡ t)) ⊎ (((mid : List BoundStep) × (c ≡ (b ++ s ∷ []) ++ mid)) ⊎ ((mid : List BoundStep) × (b ≡ (c ++ t ∷ []) ++ mid)))
 
-splits : (b c : List Step) (s t : Step) (rest others : List Step) → b ++ s ∷ rest ≡ c ++ t ∷ others → Splits b s c t
+splits : (b c : List BoundStep) (s t : BoundStep) (rest others : List BoundStep) → b ++ s ∷ rest ≡ c ++ t ∷ others → Splits b s c t
 splits [] [] s t rest others e = inl (refl, (cc))
 splits [] (x ∷ c) s t rest others e = let same : x ≡ s = cc in inr (inl (c, ap (λ y. y ∷ c) same))
 splits (x ∷ b) [] s t rest others e = let same : x ≡ t = cc in inr (inr (b, ap (λ y. y ∷ b) same))
@@ -120,7 +120,7 @@ splits (x ∷ b) (y ∷ c) s t rest others e =
     more h (inr (inl e)) = inr (inl (e.0, (λ i. sym h i ∷ e.1 i)))
     more h (inr (inr e)) = inr (inr (e.0, (λ i. h i ∷ e.1 i)))
 
-many_once : (gates : List BoundGate) (steps : List Step) (n m : ℕ) → IsTooMany gates steps n → IsTooMany gates steps m → n ≡ m
+many_once : (gates : List BoundGate) (steps : List BoundStep) (n m : ℕ) → IsTooMany gates steps n → IsTooMany gates steps m → n ≡ m
 many_once gates steps n m (b, s, rest, split, at, fine, over) (c, t, others, split', at', fine', over') =
     go (splits b c s t rest others (sym split ∙ split'))
   where
@@ -129,7 +129,7 @@ many_once gates steps n m (b, s, rest, split, at, fine, over) (c, t, others, spl
     go (inr (inl e)) = absurd (over_or_fine gates (b ++ s ∷ []) over (fine_part gates (b ++ s ∷ []) e.0 (rw e.1 at fine')))
     go (inr (inr e)) = absurd (over_or_fine gates (c ++ t ∷ []) over' (fine_part gates (c ++ t ∷ []) e.0 (rw e.1 at fine)))
 
-unvalued_once : (gates : List BoundGate) (steps : List Step) (d e : AngleRefusal) (n m : ℕ) → IsFirstUnvalued gates steps d n → IsFirstUnvalued gates steps e m
+unvalued_once : (gates : List BoundGate) (steps : List BoundStep) (d e : AngleRefusal) (n m : ℕ) → IsFirstUnvalued gates steps d n → IsFirstUnvalued gates steps e m
     → (d ≡ e) × (n ≡ m)
 unvalued_once gates steps d e n m (b, s, rest, split, at, ok, is) (c, t, others, split', at', ok', is') =
     go (splits b c s t rest others (sym split ∙ split'))
@@ -150,7 +150,7 @@ unvalued_once gates steps d e n m (b, s, rest, split, at, ok, is) (c, t, others,
 -- the refusal that an angle without a value is told as, by the angle's own fault
 abbrev IsRefusedAs : Bound → InlineRefusal → ℕ → Type 0
 IsRefusedAs b r n = ((r ≡ TooManyOps) × IsTooMany b.gates b.steps n)
-    ⊎ ((is_too_much (total b.gates b.steps) ≡ false) × ((e : AngleRefusal) × (refusal_of e ≡ r) × IsFirstUnvalued b.gates b.steps e n))
+    ⊎ ((is_too_much (total_size b.gates b.steps) ≡ false) × ((e : AngleRefusal) × (refusal_of e ≡ r) × IsFirstUnvalued b.gates b.steps e n))
 
 told_as : (b : Bound) (r : InlineRefusal) (n : ℕ) → IsInlineRefused b r n → IsRefusedAs b r n
 told_as b TooManyOps n f = inl (refl, f)

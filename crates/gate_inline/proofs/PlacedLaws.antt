@@ -11,10 +11,10 @@ use Rattle.std.proofs.lemmas.List.Elements.{All-cons, All-head, All-nil, All-tai
 use Rattle.std.proofs.lemmas.List.Folds.{list_any-append}
 use Rattle.gate_library.specs.Gates.{Formula, BoundGate, gate_at, gate_qubits}
 use Rattle.gate_library.specs.Names.{has_repeat}
-use Rattle.gate_library.specs.Operands.{broadcast, differs_from, sizes_differ, times, upto, wire_at}
+use Rattle.gate_library.specs.Operands.{broadcast, differs_from, sizes_differ, wire_number, upto, wire_at}
 use Rattle.gate_library.specs.declared.operand.Operand.{Operand}
 use Rattle.qasm_check.specs.Sound.{is_below, is_operand, is_step}
-use Rattle.qasm_check.specs.Steps.{Step, applies, measures, bars, nothing}
+use Rattle.qasm_check.specs.Steps.{BoundStep, applies, measures, barrier_on, nothing}
 use Rattle.gate_inline.specs.Parting.{IsOn, IsOnWires}
 use Rattle.gate_inline.specs.Placed.{IsPlaced}
 
@@ -121,11 +121,11 @@ module _ (gates : List BoundGate) (wires bits : ℕ) where
       → (j : ℕ) → j < broadcast ps → has_repeat nat_eq (map (wire_at j) ps) ≡ false
   step_apart gate angles ps s j l = none_upto (λ i. has_repeat nat_eq (map (wire_at i) ps)) (broadcast ps) j (not_true _ (and_right _ _ s)) l
 
-  pub step_placed : (s : Step) → is_step gates wires bits s ≡ true → IsPlaced wires bits s
+  pub step_placed : (s : BoundStep) → is_step gates wires bits s ≡ true → IsPlaced wires bits s
   step_placed (applies gate angles ps) s = λ j l.
       each_below wires j (broadcast ps) ps (are_inside wires ps (and_right _ _ (and_left _ _ (and_left _ _ s)))) (not_true _ (and_right _ _ (and_left _ _ s))) l
   step_placed (measures qubit bit) s =
-      let same : times qubit ≡ times bit = measured_times qubit.index bit.index qubit.size bit.size (not_true _ (and_right _ _ s)) in
+      let same : wire_number qubit ≡ wire_number bit = measured_times qubit.index bit.index qubit.size bit.size (not_true _ (and_right _ _ s)) in
       let from : IsIn wires qubit = inside wires qubit.first qubit.size qubit.index (and_left _ _ (and_left _ _ s)) in
       let into : IsIn bits bit = inside bits bit.first bit.size bit.index (and_right _ _ (and_left _ _ s)) in (
         same,
@@ -134,19 +134,19 @@ module _ (gates : List BoundGate) (wires bits : ℕ) where
           within bit.index bit.first bit.size bits j into (subst (λ n. j < n) same l),
         ),
       )
-  step_placed (bars ps) s = tt
+  step_placed (barrier_on ps) s = tt
   step_placed nothing s = tt
 
-  pub steps_placed : (steps : List Step) → list_all (is_step gates wires bits) steps ≡ true → All (IsPlaced wires bits) steps
+  pub steps_placed : (steps : List BoundStep) → list_all (is_step gates wires bits) steps ≡ true → All (IsPlaced wires bits) steps
   steps_placed [] s = All-nil (IsPlaced wires bits)
   steps_placed (x ∷ xs) s = All-cons (IsPlaced wires bits) x xs (step_placed x (and_left _ _ s)) (steps_placed xs (and_right _ _ s))
 
-  pub step_on : (s : Step) → is_step gates wires bits s ≡ true → IsOnWires wires s
+  pub step_on : (s : BoundStep) → is_step gates wires bits s ≡ true → IsOnWires wires s
   step_on (applies gate angles ps) s = tt
   step_on (measures qubit bit) s = tt
-  step_on (bars ps) s = All-weaker (IsIn wires) (IsOn wires) (λ p h. λ j l. within p.index p.first p.size wires j h l) ps (are_inside wires ps s)
+  step_on (barrier_on ps) s = All-weaker (IsIn wires) (IsOn wires) (λ p h. λ j l. within p.index p.first p.size wires j h l) ps (are_inside wires ps s)
   step_on nothing s = tt
 
-  pub steps_on : (steps : List Step) → list_all (is_step gates wires bits) steps ≡ true → All (IsOnWires wires) steps
+  pub steps_on : (steps : List BoundStep) → list_all (is_step gates wires bits) steps ≡ true → All (IsOnWires wires) steps
   steps_on [] s = All-nil (IsOnWires wires)
   steps_on (x ∷ xs) s = All-cons (IsOnWires wires) x xs (step_on x (and_left _ _ s)) (steps_on xs (and_right _ _ s))

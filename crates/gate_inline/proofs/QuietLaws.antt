@@ -15,14 +15,14 @@ use Rattle.std.proofs.lemmas.List.Elements.{All-append, All-cons, All-head, All-
 use Rattle.std.proofs.lemmas.Option.{slice_get-get_or, slice_get-map, slice_get_within}
 use Rattle.std.proofs.Math.Nat.{div-one, mod-one, add-mul, mul-div-le}
 use Rattle.std.proofs.Math.IntN.{*ℤ-one}
-use Rattle.angle_fraction.specs.Fraction.{Fraction, common_factor, difference, fraction, greatest_common, is_small, lowest, most_part, nought, opposite, sum, unit}
+use Rattle.angle_fraction.specs.Fraction.{Fraction, common_factor, difference, fraction, greatest_common, is_small, lowest, most_part, zero_fraction, opposite, sum, one_fraction}
 use Rattle.angle_fraction.specs.Angles.{angle, both, difference_of, fitted, opposite_of, sum_of}
 use Rattle.angle_fraction.specs.declared.Angle.{Angle}
 use Rattle.angle_fraction.specs.declared.AngleFault.{AngleFault}
 use Rattle.angle_fraction.specs.declared.signs.Binary.TheVariants.{Add, Sub}
 use Rattle.gate_library.specs.Gates.{Formula, number, pi, param, negated, binary, Item, call, barrier, BoundGate, opaque}
 use Rattle.gate_inline.specs.Meanings.{Evaluation, Meaning, body_answer, followed, gate_meaning, item_answer, joined, meaning_at, meanings, no_meaning, unvalued, wire_of}
-use Rattle.gate_inline.specs.Quiet.{AreKeptWithin, AreQuiet, AreWithin, HasWithin, IsBounded, IsKeptWithin, IsNothing, IsNothingBy, IsWhole, IsWithin}
+use Rattle.gate_inline.specs.Quiet.{AreKeptWithin, AreQuiet, AreAnglesUpTo, HasWithin, IsBounded, IsKeptWithin, IsNothing, IsNothingBy, IsWholeUpTo, IsAngleUpTo}
 use Rattle.linear_forms.specs.Values.{and_next, no_angle, operation, value, values}
 use Rattle.gate_inline.specs.declared.quiet.PartBound.{PartBound}
 use Rattle.gate_inline.proofs.KeptLaws.{meaning_at-first}
@@ -44,7 +44,7 @@ fitted-one : (z : ℤ) → unsigned_abs z ≤ most_part → fitted (fraction z 1
 unfolding fitted is_small
 fitted-one z h = rw (lowest-whole z, small_test (unsigned_abs z) 1 most_part h (omega arith)) refl
 
-fitted-whole : (n : ℕ) (x : Fraction) → IsWhole n x → n ≤ most_part → fitted x ≡ Ok x
+fitted-whole : (n : ℕ) (x : Fraction) → IsWholeUpTo n x → n ≤ most_part → fitted x ≡ Ok x
 fitted-whole n x h small =
     let size : unsigned_abs x.num ≤ most_part = let s = h.size in omega (arith, s, small) in
     let same : x ≡ fraction x.num 1 = λ i. fraction x.num (h.whole i) in
@@ -69,7 +69,7 @@ size-sum (negsuc a) (pos b) (negsuc c) e = omega (arith, ints, e)
 size-sum (negsuc a) (negsuc b) (pos c) e = absurd (omega (arith, ints, e))
 size-sum (negsuc a) (negsuc b) (negsuc c) e = omega (arith, ints, e)
 
-whole_sum : (m n : ℕ) (x y : Fraction) → IsWhole m x → IsWhole n y → IsWhole (m + n) (sum x y)
+whole_sum : (m n : ℕ) (x y : Fraction) → IsWholeUpTo m x → IsWholeUpTo n y → IsWholeUpTo (m + n) (sum x y)
 whole_sum m n x y h k =
     let e : x.num *ℤ pos y.den +ℤ y.num *ℤ pos x.den ≡ x.num +ℤ y.num =
     (λ i. x.num *ℤ pos (k.whole i) +ℤ y.num *ℤ pos (h.whole i)) ∙ (λ i. times_one x.num i +ℤ times_one y.num i) in
@@ -78,7 +78,7 @@ whole_sum m n x y h k =
     let b = k.size in
     record { whole = λ i. h.whole i * k.whole i; size = omega (arith, s, a, b) }
 
-whole_difference : (m n : ℕ) (x y : Fraction) → IsWhole m x → IsWhole n y → IsWhole (m + n) (difference x y)
+whole_difference : (m n : ℕ) (x y : Fraction) → IsWholeUpTo m x → IsWholeUpTo n y → IsWholeUpTo (m + n) (difference x y)
 whole_difference m n x y h k =
     let e : x.num *ℤ pos y.den -ℤ y.num *ℤ pos x.den ≡ x.num +ℤ neg_ℤ y.num =
     (λ i. x.num *ℤ pos (k.whole i) -ℤ y.num *ℤ pos (h.whole i)) ∙ (λ i. times_one x.num i -ℤ times_one y.num i) in
@@ -88,45 +88,45 @@ whole_difference m n x y h k =
     let t = size-neg y.num in
     record { whole = λ i. h.whole i * k.whole i; size = omega (arith, s, t, a, b) }
 
-whole_opposite : (n : ℕ) (x : Fraction) → IsWhole n x → IsWhole n (opposite x)
+whole_opposite : (n : ℕ) (x : Fraction) → IsWholeUpTo n x → IsWholeUpTo n (opposite x)
 whole_opposite n x h =
     let t = size-neg x.num in
     let a = h.size in
     record { whole = h.whole; size = omega (arith, t, a) }
 
-whole_more : (m n : ℕ) (x : Fraction) → m ≤ n → IsWhole m x → IsWhole n x
+whole_more : (m n : ℕ) (x : Fraction) → m ≤ n → IsWholeUpTo m x → IsWholeUpTo n x
 whole_more m n x l h = let a = h.size in record { whole = h.whole; size = omega (arith, a, l) }
 
-whole_nought : (n : ℕ) → IsWhole n nought
+whole_nought : (n : ℕ) → IsWholeUpTo n zero_fraction
 whole_nought n = record { whole = refl; size = omega arith }
 
-within_weaker : (m n : ℕ) (a : Angle) → m ≤ n → IsWithin m a → IsWithin n a
+within_weaker : (m n : ℕ) (a : Angle) → m ≤ n → IsAngleUpTo m a → IsAngleUpTo n a
 within_weaker m n a l h = record { plain = whole_more m n a.plain l h.plain; pis = whole_more m n a.pis l h.pis }
 
-within_all : (m n : ℕ) (angles : List Angle) → m ≤ n → AreWithin m angles → AreWithin n angles
-within_all m n [] l h = All-nil (IsWithin n)
+within_all : (m n : ℕ) (angles : List Angle) → m ≤ n → AreAnglesUpTo m angles → AreAnglesUpTo n angles
+within_all m n [] l h = All-nil (IsAngleUpTo n)
 within_all m n (a ∷ angles) l h =
-    All-cons (IsWithin n) a angles (within_weaker m n a l (All-head (IsWithin m) a angles h)) (within_all m n angles l (All-tail (IsWithin m) a angles h))
+    All-cons (IsAngleUpTo n) a angles (within_weaker m n a l (All-head (IsAngleUpTo m) a angles h)) (within_all m n angles l (All-tail (IsAngleUpTo m) a angles h))
 
-within_got : (m : ℕ) (angles : List Angle) (i : ℕ) → AreWithin m angles → IsWithin m (unwrap_or (slice_get angles i) no_angle)
+within_got : (m : ℕ) (angles : List Angle) (i : ℕ) → AreAnglesUpTo m angles → IsAngleUpTo m (unwrap_or (slice_get angles i) no_angle)
 within_got m [] i h = record { plain = whole_nought m; pis = whole_nought m }
-within_got m (a ∷ angles) zero h = All-head (IsWithin m) a angles h
-within_got m (a ∷ angles) (suc i) h = within_got m angles i (All-tail (IsWithin m) a angles h)
+within_got m (a ∷ angles) zero h = All-head (IsAngleUpTo m) a angles h
+within_got m (a ∷ angles) (suc i) h = within_got m angles i (All-tail (IsAngleUpTo m) a angles h)
 
 -- ---- expressions
-sum_fits : (m n : ℕ) (a b : Angle) → IsWithin m a → IsWithin n b → m + n ≤ most_part → sum_of a b ≡ Ok (angle (sum a.plain b.plain) (sum a.pis b.pis))
+sum_fits : (m n : ℕ) (a b : Angle) → IsAngleUpTo m a → IsAngleUpTo n b → m + n ≤ most_part → sum_of a b ≡ Ok (angle (sum a.plain b.plain) (sum a.pis b.pis))
 unfolding sum_of
 sum_fits m n a b h k small = λ i.
     both (fitted-whole (m + n) (sum a.plain b.plain) (whole_sum m n a.plain b.plain h.plain k.plain) small i)
     (fitted-whole (m + n) (sum a.pis b.pis) (whole_sum m n a.pis b.pis h.pis k.pis) small i)
 
-difference_fits : (m n : ℕ) (a b : Angle) → IsWithin m a → IsWithin n b → m + n ≤ most_part → difference_of a b ≡ Ok (angle (difference a.plain b.plain) (difference a.pis b.pis))
+difference_fits : (m n : ℕ) (a b : Angle) → IsAngleUpTo m a → IsAngleUpTo n b → m + n ≤ most_part → difference_of a b ≡ Ok (angle (difference a.plain b.plain) (difference a.pis b.pis))
 unfolding difference_of
 difference_fits m n a b h k small = λ i.
     both (fitted-whole (m + n) (difference a.plain b.plain) (whole_difference m n a.plain b.plain h.plain k.plain) small i)
     (fitted-whole (m + n) (difference a.pis b.pis) (whole_difference m n a.pis b.pis h.pis k.pis) small i)
 
-opposite_fits : (n : ℕ) (a : Angle) → IsWithin n a → n ≤ most_part → opposite_of a ≡ Ok (angle (opposite a.plain) (opposite a.pis))
+opposite_fits : (n : ℕ) (a : Angle) → IsAngleUpTo n a → n ≤ most_part → opposite_of a ≡ Ok (angle (opposite a.plain) (opposite a.pis))
 unfolding opposite_of
 opposite_fits n a h small = λ i.
     both (fitted-whole n (opposite a.plain) (whole_opposite n a.plain h.plain) small i) (fitted-whole n (opposite a.pis) (whole_opposite n a.pis h.pis) small i)
@@ -174,7 +174,7 @@ has_weaker m n params f l h = record { angle = h.angle; is = h.is; within = with
 pub bounded_number : (x : Fraction) (b : PartBound) → x.den ≡ 1 → b.fixed ≡ unsigned_abs x.num → IsBounded (number x) b
 bounded_number x b e s = record {
   has = λ m params h small. record {
-    angle = angle x nought;
+    angle = angle x zero_fraction;
     is = refl;
     within = record { plain = record { whole = e; size = omega (arith, s) }; pis = whole_nought (b.fixed + b.times * m) };
   };
@@ -183,7 +183,7 @@ bounded_number x b e s = record {
 pub bounded_pi : (b : PartBound) → b.fixed ≡ 1 → IsBounded pi b
 bounded_pi b e = record {
   has = λ m params h small. record {
-    angle = angle nought unit;
+    angle = angle zero_fraction one_fraction;
     is = refl;
     within = record { plain = whole_nought (b.fixed + b.times * m); pis = record { whole = refl; size = omega (arith, e) } };
   };
@@ -253,7 +253,7 @@ kept_more limit l m n fs gs f e first second h k =
     (All-cons (IsKeptWithin limit n) f [] (record { has = λ small params w. k.has small params (within_all n m params second w) }) (All-nil (IsKeptWithin limit n))))
 
 pub kept_all : (limit l : ℕ) (fs : List Formula) → All (IsKeptWithin limit l) fs → AreKeptWithin limit l fs
-kept_all limit l [] h = record { have = λ small params w. record { angles = []; are = refl; within = All-nil (IsWithin limit) } }
+kept_all limit l [] h = record { have = λ small params w. record { angles = []; are = refl; within = All-nil (IsAngleUpTo limit) } }
 kept_all limit l (f ∷ fs) h = record {
   have = λ small params w.
       let one = (All-head (IsKeptWithin limit l) f fs h).has small params w in
@@ -263,7 +263,7 @@ kept_all limit l (f ∷ fs) h = record {
         are =
             ap (λ (r : Value). and_next r (λ a. and_next (values params fs) (λ others. Ok (a ∷ others)))) one.is
             ∙ ap (λ (r : Result (List Angle) AngleFault). and_next r (λ others. Ok (one.angle ∷ others))) rest.are;
-        within = All-cons (IsWithin limit) one.angle rest.angles one.within rest.within;
+        within = All-cons (IsAngleUpTo limit) one.angle rest.angles one.within rest.within;
       };
 }
 
@@ -310,7 +310,7 @@ pub nothing_body : (limits : List (Option ℕ)) (l : ℕ) (xs : List Item) → l
     IsNothingBy limits l (λ ms. body_answer ms xs)
 nothing_body limits l xs small h = record { by = λ ms q. record { small = small; none = λ params wires w. lines ms params wires q w xs h } }
   where
-    lines : (ms : List Meaning) (params : List Angle) (wires : List ℕ) → AreQuiet ms limits → AreWithin l params → (xs : List Item) → All (IsLine limits l) xs →
+    lines : (ms : List Meaning) (params : List Angle) (wires : List ℕ) → AreQuiet ms limits → AreAnglesUpTo l params → (xs : List Item) → All (IsLine limits l) xs →
         joined (map (item_answer ms params wires) xs) ≡ Ok []
     lines ms params wires q w [] h = refl
     lines ms params wires q w (x ∷ xs) h =
@@ -365,9 +365,9 @@ quiet_more gates limits more o g i m s n h k = record {
 }
 
 -- ---- angles one by one
-pub within_more : (limit : ℕ) (angles more : List Angle) (a : Angle) → more ≡ angles ++ a ∷ [] → AreWithin limit angles → IsWithin limit a → AreWithin limit more
+pub within_more : (limit : ℕ) (angles more : List Angle) (a : Angle) → more ≡ angles ++ a ∷ [] → AreAnglesUpTo limit angles → IsAngleUpTo limit a → AreAnglesUpTo limit more
 within_more limit angles more a e h k =
-    subst (λ (xs : List Angle). AreWithin limit xs) (sym e) (All-append (IsWithin limit) angles (a ∷ []) h (All-cons (IsWithin limit) a [] k (All-nil (IsWithin limit))))
+    subst (λ (xs : List Angle). AreAnglesUpTo limit xs) (sym e) (All-append (IsAngleUpTo limit) angles (a ∷ []) h (All-cons (IsAngleUpTo limit) a [] k (All-nil (IsAngleUpTo limit))))
 
 -- ---- a call of one of the first gates
 pub skipped : (gates : List BoundGate) (below i : ℕ) (angles bs : List Angle) (wires : List ℕ) → i < below → angles ≡ bs → meaning_at (meanings gates) i angles wires ≡ Ok [] →

@@ -13,8 +13,8 @@ use Rattle.std.proofs.Math.Seq.{take-append_seam}
 use Rattle.std.proofs.lemmas.Bool.Decides.{nat_tests}
 use Rattle.std.proofs.lemmas.List.{get_or-set_other, get_or-set_same, length-append, length-map, map-append, same_lists}
 use Rattle.std.proofs.lemmas.List.Folds.{find-append}
-use Rattle.gate_library.specs.Operands.{times, upto, wire_at}
-use Rattle.qasm_check.specs.Steps.{Step}
+use Rattle.gate_library.specs.Operands.{wire_number, upto, wire_at}
+use Rattle.qasm_check.specs.Steps.{BoundStep}
 use Rattle.gate_library.specs.declared.operand.Operand.{Operand}
 use Rattle.gate_inline.specs.Reads.{last_read, read_within, reads, step_read}
 
@@ -57,14 +57,14 @@ read_within-none (suc n) qubit bits x h =
     ∙ (λ i. option_or (read_within-none n qubit bits x (λ j l. h j (omega arith)) i) (last_index-other n qubit bits x (h n (omega arith)) i))
 
 -- no two indices name one bit
-apart : (p : Operand) (i n : ℕ) → n < times p → i < n → wire_at n p ≢ wire_at i p
+apart : (p : Operand) (i n : ℕ) → n < wire_number p → i < n → wire_at n p ≢ wire_at i p
 apart p i n h l = go p.index h
   where
     go : (o : Option ℕ) → n < elim o [ None ↦ p.size | Some k ↦ 1 ] → p.first + unwrap_or o n ≢ p.first + unwrap_or o i
     go None h e = absurd (omega arith)
     go (Some k) h e = absurd (omega arith)
 
-pub measured_next : (list old : List (Option ℕ)) (qubit bits : Operand) (n : ℕ) → n < times bits → wire_at n bits < length list →
+pub measured_next : (list old : List (Option ℕ)) (qubit bits : Operand) (n : ℕ) → n < wire_number bits → wire_at n bits < length list →
     ((x : ℕ) → x < length old → get_or list x None ≡ option_or (read_within n qubit bits x) (get_or old x None)) →
     (x : ℕ) → x < length old → get_or (set list (wire_at n bits) (Some (wire_at n qubit))) x None ≡ option_or (read_within (n + 1) qubit bits x) (get_or old x None)
 measured_next list old qubit bits n h w inv x l = go (nat_eq x (wire_at n bits)) refl
@@ -86,7 +86,7 @@ measured_next list old qubit bits n h w inv x l = go (nat_eq x (wire_at n bits))
         ∙ sym (ap (λ o. option_or o (get_or old x None)) (read_within-more n qubit bits x ∙ ap (option_or (read_within n qubit bits x)) (last_index-other n qubit bits x (differ e)) ∙ or_none (read_within n qubit bits x)))
 
 -- ---- all steps
-pub last_read-push : (ss : List Step) (s : Step) (x : ℕ) → last_read (ss ++ s ∷ []) x ≡ option_or (step_read s x) (last_read ss x)
+pub last_read-push : (ss : List BoundStep) (s : BoundStep) (x : ℕ) → last_read (ss ++ s ∷ []) x ≡ option_or (step_read s x) (last_read ss x)
 last_read-push [] s x = sym (or_none (step_read s x))
 last_read-push (t ∷ ss) s x = ap (λ o. option_or o (step_read t x)) (last_read-push ss s x) ∙ or_or (step_read s x) (last_read ss x) (step_read t x)
 
@@ -126,12 +126,12 @@ get_upto f (suc n) k d h = ap (λ xs. get_or xs k d) (map-append f (upto n) (n �
     go (inl l) rest = get_front (map f (upto n)) (f n ∷ []) k d (omega (arith, long)) ∙ rest l
     go (inr same) rest = get_seam (map f (upto n)) (f n) d k (omega (arith, long)) ∙ ap f (sym same)
 
-pub reads-listed : (list : List (Option ℕ)) (bits : ℕ) (ss : List Step) → length list ≡ bits → ((x : ℕ) → x < bits → get_or list x None ≡ last_read ss x) → list ≡ reads bits ss
+pub reads-listed : (list : List (Option ℕ)) (bits : ℕ) (ss : List BoundStep) → length list ≡ bits → ((x : ℕ) → x < bits → get_or list x None ≡ last_read ss x) → list ≡ reads bits ss
 reads-listed list bits ss e h =
     same_lists list (reads bits ss) (e ∙ sym (length-map (upto bits) (last_read ss) ∙ length-upto bits))
     (λ k d l. get_any list k d None l ∙ h k (omega (arith, e)) ∙ sym (get_upto (last_read ss) bits k d (omega (arith, e))))
 
-pub read_next : (ss : List Step) (s : Step) (x : ℕ) (new old : Option ℕ) → old ≡ last_read ss x → new ≡ option_or (step_read s x) old → new ≡ last_read (ss ++ s ∷ []) x
+pub read_next : (ss : List BoundStep) (s : BoundStep) (x : ℕ) (new old : Option ℕ) → old ≡ last_read ss x → new ≡ option_or (step_read s x) old → new ≡ last_read (ss ++ s ∷ []) x
 read_next ss s x new old e f = f ∙ ap (option_or (step_read s x)) e ∙ sym (last_read-push ss s x)
 
 pub read_within-zero : (qubit bits : Operand) (x : ℕ) → read_within 0 qubit bits x ≡ None

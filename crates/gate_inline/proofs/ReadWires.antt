@@ -8,9 +8,9 @@ use Rattle.std.specs.List.{AllByRecursion, find}
 use Rattle.std.specs.Option.{option_map, option_or}
 use Rattle.std.proofs.lemmas.List.{length-append, length-map}
 use Rattle.std.proofs.lemmas.List.Elements.{All-append, All-cons, All-nil, recursion_from_All}
-use Rattle.gate_library.specs.Operands.{times, upto, wire_at}
+use Rattle.gate_library.specs.Operands.{wire_number, upto, wire_at}
 use Rattle.gate_library.specs.declared.operand.Operand.{Operand}
-use Rattle.qasm_check.specs.Steps.{Step, applies, measures, bars, nothing}
+use Rattle.qasm_check.specs.Steps.{BoundStep, applies, measures, barrier_on, nothing}
 use Rattle.qasm_check.specs.Bound.{Bound}
 use Rattle.gate_expand.specs.declared.source.Ops.{Ops}
 use Rattle.gate_inline.specs.Inlined.{IsInlined}
@@ -51,32 +51,32 @@ read_at : (wires n : ℕ) (qubit : Operand) (f : ℕ → Bool) → ((j : ℕ) �
 read_at wires n qubit f there None e = tt
 read_at wires n qubit f there (Some j) e = there j (found_in (λ i. i < n) f (upto n) j (recursion_from_All (λ i. i < n) (upto n) (upto_below n)) e)
 
-step_there : (wires bits : ℕ) (s : Step) (bit : ℕ) → IsPlaced wires bits s → IsRead wires (step_read s bit)
+step_there : (wires bits : ℕ) (s : BoundStep) (bit : ℕ) → IsPlaced wires bits s → IsRead wires (step_read s bit)
 step_there wires bits (applies gate angles operands) bit h = tt
 step_there wires bits (measures qubit cell) bit h =
-    read_at wires (times cell) qubit (λ j. nat_eq bit (wire_at j cell)) (λ j low. let same = h.0 in (h.1 j (omega (arith, low, same))).0)
-    (find (λ j. nat_eq bit (wire_at j cell)) (upto (times cell))) refl
-step_there wires bits (bars operands) bit h = tt
+    read_at wires (wire_number cell) qubit (λ j. nat_eq bit (wire_at j cell)) (λ j low. let same = h.0 in (h.1 j (omega (arith, low, same))).0)
+    (find (λ j. nat_eq bit (wire_at j cell)) (upto (wire_number cell))) refl
+step_there wires bits (barrier_on operands) bit h = tt
 step_there wires bits nothing bit h = tt
 
 or_there : (wires : ℕ) (a b : Option ℕ) → IsRead wires a → IsRead wires b → IsRead wires (option_or a b)
 or_there wires None b h g = g
 or_there wires (Some q) b h g = h
 
-last_there : (wires bits : ℕ) (steps : List Step) (bit : ℕ) → AllByRecursion (IsPlaced wires bits) steps → IsRead wires (last_read steps bit)
+last_there : (wires bits : ℕ) (steps : List BoundStep) (bit : ℕ) → AllByRecursion (IsPlaced wires bits) steps → IsRead wires (last_read steps bit)
 last_there wires bits [] bit h = tt
 last_there wires bits (s ∷ rest) bit h =
     or_there wires (last_read rest bit) (step_read s bit) (last_there wires bits rest bit h.1) (step_there wires bits s bit h.0)
 
-each_there : (wires bits : ℕ) (steps : List Step) (xs : List ℕ) → AllByRecursion (IsPlaced wires bits) steps → All (IsRead wires) (map (last_read steps) xs)
+each_there : (wires bits : ℕ) (steps : List BoundStep) (xs : List ℕ) → AllByRecursion (IsPlaced wires bits) steps → All (IsRead wires) (map (last_read steps) xs)
 each_there wires bits steps [] h = All-nil (IsRead wires)
 each_there wires bits steps (x ∷ xs) h =
     All-cons (IsRead wires) (last_read steps x) (map (last_read steps) xs) (last_there wires bits steps x h) (each_there wires bits steps xs h)
 
-pub reads_there : (wires bits : ℕ) (steps : List Step) → All (IsPlaced wires bits) steps → All (IsRead wires) (reads bits steps)
+pub reads_there : (wires bits : ℕ) (steps : List BoundStep) → All (IsPlaced wires bits) steps → All (IsRead wires) (reads bits steps)
 reads_there wires bits steps h = each_there wires bits steps (upto bits) (recursion_from_All (IsPlaced wires bits) steps h)
 
-pub length-reads : (bits : ℕ) (steps : List Step) → length (reads bits steps) ≡ bits
+pub length-reads : (bits : ℕ) (steps : List BoundStep) → length (reads bits steps) ≡ bits
 length-reads bits steps = length-map (upto bits) (last_read steps) ∙ length-upto bits
 
 pub inlined_reads : (b : Bound) (o : Ops) → IsSound b → IsInlined b o → All (IsRead o.wires) o.reads

@@ -12,9 +12,9 @@ use Rattle.unitary_model.specs.declared.Op.{Op}
 use Rattle.unitary_model.specs.declared.Op.TheVariants.{U}
 use Rattle.gate_library.specs.Gates.{Item, call, barrier, BoundGate, u, cx, opaque, composed}
 use Rattle.gate_inline.specs.Meanings.{Evaluation, Meaning, controlled, eighth, followed, gate_meaning, item_answer, joined, meaning_at, meanings, rotation, unvalued, wire_of}
-use Rattle.gate_library.specs.Views.{gate as gate_view}
+use Rattle.gate_library.specs.Views.{gate_view}
 use Rattle.gate_library.specs.declared.gate.BoundGate.{BoundGate as CodeGate}
-use Rattle.gate_inline.specs.Progress.{HasWritten, Progress, gates_of}
+use Rattle.gate_inline.specs.Progress.{AppendsAnswer, Progress, gate_views}
 use Rattle.gate_inline.specs.Remembered.{IsPart, part}
 use Rattle.gate_inline.specs.Renaming.{IsNatural, IsRenaming, renamed, renamed_answer, renamed_op}
 use Rattle.linear_forms.specs.Values.{and_next, values}
@@ -177,9 +177,9 @@ alike ms gate angles from to us h r same =
 pub written_alike : (p : Progress) (gates : List CodeGate) (us new : List Op) (start end gate : ℕ) (angles : List Angle) (from to : List ℕ)
     → p ≡ record { gates = gates; list = us } → IsPart (meaning_at (meanings (map gate_view gates)) gate angles from) us start end → IsRenaming from to
     → new ≡ us ++ map (renamed_op (renamed from to)) (part us start end)
-    → HasWritten p (meaning_at (meanings (gates_of p)) gate angles to) (record { gates = gates; list = new })
+    → AppendsAnswer p (meaning_at (meanings (gate_views p)) gate angles to) (record { gates = gates; list = new })
 written_alike p gates us new start end gate angles from to is h r put =
-    subst (λ (q : Progress). HasWritten q (meaning_at (meanings (gates_of q)) gate angles to) (record { gates = gates; list = new })) (sym is)
+    subst (λ (q : Progress). AppendsAnswer q (meaning_at (meanings (gate_views q)) gate angles to) (record { gates = gates; list = new })) (sym is)
     (record {
       gates = refl;
       list = ap (λ (vs : List Op). Ok vs) put

@@ -9,19 +9,19 @@ use Rattle.std.proofs.lemmas.List.{map-append}
 use Rattle.unitary_model.specs.declared.Op.{Op}
 use Rattle.qasm_check.specs.Bound.{Bound}
 use Rattle.gate_library.specs.Gates.{BoundGate}
-use Rattle.gate_library.specs.Views.{gate as gate_view}
+use Rattle.gate_library.specs.Views.{gate_view}
 use Rattle.gate_library.specs.declared.gate.BoundGate.{BoundGate as CodeGate}
-use Rattle.qasm_check.specs.Steps.{Step}
+use Rattle.qasm_check.specs.Steps.{BoundStep}
 use Rattle.gate_library.specs.Operands.{upto}
 use Rattle.gate_inline.specs.Meanings.{Evaluation, followed, joined, meanings, step_answer}
-use Rattle.gate_inline.specs.Capped.{capped}
-use Rattle.gate_inline.specs.Inlined.{IsFirstUnvalued, IsInlineFault, IsInlineRefused, IsTooMany, IsUnwritten, operations, refusal_of, stopped_at, unwritten_fault}
-use Rattle.gate_inline.specs.Progress.{Progress, at_start, gates_of}
+use Rattle.gate_inline.specs.Capped.{capped_size}
+use Rattle.gate_inline.specs.Inlined.{IsFirstUnvalued, IsInlineFault, IsInlineRefused, IsTooMany, IsUnwrittenFault, operations, refusal_of, stopped_at, unwritten_fault}
+use Rattle.gate_inline.specs.Progress.{Progress, at_start, gate_views}
 use Rattle.gate_inline.specs.declared.refusal.InlineFault.{InlineFault}
 use Rattle.gate_inline.specs.declared.program.Unwritten.{Unwritten}
 use Rattle.gate_inline.specs.declared.program.Unwritten.TheVariants.{Refused as AngleRefused, NoMemory as Short}
-use Rattle.gate_inline.specs.Sizes.{is_too_much, sizes, steps_size, total}
-use Rattle.gate_inline.specs.Stops.{IsStop}
+use Rattle.gate_inline.specs.Sizes.{is_too_much, sizes, steps_size, total_size}
+use Rattle.gate_inline.specs.Stops.{IsInlineStop}
 use Rattle.gate_inline.specs.declared.size.Size.{Size}
 use Rattle.gate_inline.specs.declared.stop.AngleRefusal.{AngleRefusal}
 use Rattle.gate_inline.specs.declared.stop.AngleRefusal.TheVariants.{NoForm, ByZero, TooLarge, NoStep}
@@ -45,7 +45,7 @@ upto-more m j =
     ∙ ap joined (map-append m (upto j) (j ∷ []))
     ∙ joined-push (map m (upto j)) (m j)
 
-pub upto_stop : (m : ℕ → Evaluation) (us : List Op) (j n : ℕ) (s : InlineStop) → joined (map m (upto j)) ≡ Ok us → j < n → IsStop (m j) s → IsStop (joined (map m (upto n))) s
+pub upto_stop : (m : ℕ → Evaluation) (us : List Op) (j n : ℕ) (s : InlineStop) → joined (map m (upto j)) ≡ Ok us → j < n → IsInlineStop (m j) s → IsInlineStop (joined (map m (upto n))) s
 upto_stop m us j n NoMemory e h g = tt
 upto_stop m us j zero (Unexact r) e h g = absurd (omega arith)
 upto_stop m us j (suc n) (Unexact r) e h g =
@@ -73,17 +73,17 @@ next_index m us vs ws j f g =
     f ∙ ap (λ a. followed a (m j)) g ∙ followed-followed (Ok ws) (joined (map m (upto j))) (m j) ∙ ap (followed (Ok ws)) (sym (upto-more m j))
 
 -- ---- all steps
-split_views : {X : Type 0} (v : X → Step) (xs : List X) (i : ℕ) (x : X) → i < length xs → x ≡ get_or xs i x → map v xs ≡ map v (take i xs) ++ v x ∷ map v (drop (suc i) xs)
+split_views : {X : Type 0} (v : X → BoundStep) (xs : List X) (i : ℕ) (x : X) → i < length xs → x ≡ get_or xs i x → map v xs ≡ map v (take i xs) ++ v x ∷ map v (drop (suc i) xs)
 split_views v [] i x h e = absurd (omega arith)
 split_views v (y ∷ ys) zero x h e = ap (λ z. v z ∷ map v ys) (sym e)
 split_views v (y ∷ ys) (suc i) x h e = ap (λ zs. v y ∷ zs) (split_views v ys i x (omega arith) e)
 
-long_views : {X : Type 0} (v : X → Step) (xs : List X) (i : ℕ) → i < length xs → length (map v (take i xs)) ≡ i
+long_views : {X : Type 0} (v : X → BoundStep) (xs : List X) (i : ℕ) → i < length xs → length (map v (take i xs)) ≡ i
 long_views v xs zero h = refl
 long_views v [] (suc i) h = absurd (omega arith)
 long_views v (y ∷ ys) (suc i) h = ap (λ n. suc n) (long_views v ys i (omega arith))
 
-pub first_unvalued : {X : Type 0} (v : X → Step) (gates : List BoundGate) (xs : List X) (i n : ℕ) (x : X) (us : List Op) (e : AngleRefusal) → i < length xs → x ≡ get_or xs i x → n ≡ i + 1 →
+pub first_unvalued : {X : Type 0} (v : X → BoundStep) (gates : List BoundGate) (xs : List X) (i n : ℕ) (x : X) (us : List Op) (e : AngleRefusal) → i < length xs → x ≡ get_or xs i x → n ≡ i + 1 →
     ◌≡◌ {A = Evaluation} (operations gates (map v (take i xs))) (Ok us) → step_answer (meanings gates) (v x) ≡ Err e → IsFirstUnvalued gates (map v xs) e n
 first_unvalued v gates xs i n x us e h there number before stop = (
   map v (take i xs),
@@ -95,7 +95,7 @@ first_unvalued v gates xs i n x us e h there number before stop = (
   stop,
 )
 
-pub more_operations : {X : Type 0} (v : X → Step) (gates : List BoundGate) (xs : List X) (i : ℕ) (x : X) (us vs : List Op) → i < length xs → x ≡ get_or xs i x →
+pub more_operations : {X : Type 0} (v : X → BoundStep) (gates : List BoundGate) (xs : List X) (i : ℕ) (x : X) (us vs : List Op) → i < length xs → x ≡ get_or xs i x →
     ◌≡◌ {A = Evaluation} (operations gates (map v (take i xs))) (Ok us) → ◌≡◌ {A = Evaluation} (Ok vs) (followed (Ok us) (step_answer (meanings gates) (v x))) →
     ◌≡◌ {A = Evaluation} (operations gates (map v (take (i + 1) xs))) (Ok vs)
 more_operations v gates xs i x us vs h there before more =
@@ -110,7 +110,7 @@ an_element [] i h = absurd (omega arith)
 an_element (y ∷ ys) zero h = (y, refl)
 an_element (y ∷ ys) (suc i) h = an_element ys i (omega arith)
 
-pub too_many : {X : Type 0} (v : X → Step) (gates : List BoundGate) (xs : List X) (ss : List Size) (i n : ℕ) → i < length xs → n ≡ i + 1 → ss ≡ map capped (sizes gates) →
+pub too_many : {X : Type 0} (v : X → BoundStep) (gates : List BoundGate) (xs : List X) (ss : List Size) (i n : ℕ) → i < length xs → n ≡ i + 1 → ss ≡ map capped_size (sizes gates) →
     is_too_much (steps_size ss (map v (take i xs))) ≡ false → is_too_much (steps_size ss (map v (take (i + 1) xs))) ≡ true → IsTooMany gates (map v xs) n
 too_many v gates xs ss i n h number same small large =
     let found = an_element xs i h in (
@@ -120,33 +120,33 @@ too_many v gates xs ss i n h number same small large =
       split_views v xs i found.0 h found.1,
       omega (arith, long_views v xs i h, number),
       sym (too_much-capped (sizes gates) (map v (take i xs))) ∙ ap (λ s. is_too_much (steps_size s (map v (take i xs)))) (sym same) ∙ small,
-      ap (λ steps. is_too_much (total gates steps)) (sym (next_views v xs i found.0 h found.1)) ∙ sym (too_much-capped (sizes gates) (map v (take (i + 1) xs)))
+      ap (λ steps. is_too_much (total_size gates steps)) (sym (next_views v xs i found.0 h found.1)) ∙ sym (too_much-capped (sizes gates) (map v (take (i + 1) xs)))
           ∙ ap (λ s. is_too_much (steps_size s (map v (take (i + 1) xs)))) (sym same) ∙ large,
     )
 
-pub not_too_much : (gates : List BoundGate) (steps : List Step) (ss : List Size) → ss ≡ map capped (sizes gates) → is_too_much (steps_size ss steps) ≡ false → is_too_much (total gates steps) ≡ false
+pub not_too_much : (gates : List BoundGate) (steps : List BoundStep) (ss : List Size) → ss ≡ map capped_size (sizes gates) → is_too_much (steps_size ss steps) ≡ false → is_too_much (total_size gates steps) ≡ false
 not_too_much gates steps ss same small = sym (too_much-capped (sizes gates) steps) ∙ ap (λ s. is_too_much (steps_size s steps)) (sym same) ∙ small
 
-pub unvalued_refused : (b : Bound) (e : AngleRefusal) (n : ℕ) → is_too_much (total b.gates b.steps) ≡ false → IsFirstUnvalued b.gates b.steps e n → IsInlineRefused b (refusal_of e) n
+pub unvalued_refused : (b : Bound) (e : AngleRefusal) (n : ℕ) → is_too_much (total_size b.gates b.steps) ≡ false → IsFirstUnvalued b.gates b.steps e n → IsInlineRefused b (refusal_of e) n
 unvalued_refused b NoForm n small first = (small, first)
 unvalued_refused b ByZero n small first = (small, first)
 unvalued_refused b TooLarge n small first = (small, first)
 unvalued_refused b NoStep n small first = (small, first)
 
-pub stopped_unwritten : {X : Type 0} (v : X → Step) (gates : List BoundGate) (xs : List X) (i n : ℕ) (x : X) (us : List Op) (s : InlineStop) → i < length xs → x ≡ get_or xs i x → n ≡ i + 1 →
-    ◌≡◌ {A = Evaluation} (operations gates (map v (take i xs))) (Ok us) → IsStop (step_answer (meanings gates) (v x)) s → IsUnwritten gates (map v xs) (stopped_at s n)
+pub stopped_unwritten : {X : Type 0} (v : X → BoundStep) (gates : List BoundGate) (xs : List X) (i n : ℕ) (x : X) (us : List Op) (s : InlineStop) → i < length xs → x ≡ get_or xs i x → n ≡ i + 1 →
+    ◌≡◌ {A = Evaluation} (operations gates (map v (take i xs))) (Ok us) → IsInlineStop (step_answer (meanings gates) (v x)) s → IsUnwrittenFault gates (map v xs) (stopped_at s n)
 stopped_unwritten v gates xs i n x us NoMemory h there number before stop = tt
 stopped_unwritten v gates xs i n x us (Unexact e) h there number before stop = first_unvalued v gates xs i n x us e h there number before stop
 
-pub unwritten_fault-told : (b : Bound) (u : Unwritten) → is_too_much (total b.gates b.steps) ≡ false → IsUnwritten b.gates b.steps u → IsInlineFault b (unwritten_fault u)
+pub unwritten_fault-told : (b : Bound) (u : Unwritten) → is_too_much (total_size b.gates b.steps) ≡ false → IsUnwrittenFault b.gates b.steps u → IsInlineFault b (unwritten_fault u)
 unwritten_fault-told b Short small h = tt
 unwritten_fault-told b (AngleRefused e n) small h = unvalued_refused b e n small h
 
 -- what stops the steps of a program that isn't too much
-pub unwritten_told : (gates : List CodeGate) (steps : List Step) (wires bits : ℕ) (p : Progress) (u : Unwritten) (f : InlineFault) → p ≡ at_start gates →
-    is_too_much (total (map gate_view gates) steps) ≡ false → IsUnwritten (gates_of p) steps u → f ≡ unwritten_fault u →
+pub unwritten_told : (gates : List CodeGate) (steps : List BoundStep) (wires bits : ℕ) (p : Progress) (u : Unwritten) (f : InlineFault) → p ≡ at_start gates →
+    is_too_much (total_size (map gate_view gates) steps) ≡ false → IsUnwrittenFault (gate_views p) steps u → f ≡ unwritten_fault u →
     IsInlineFault (record { gates = map gate_view gates; steps = steps; wires = wires; bits = bits; registers = [] }) f
 unwritten_told gates steps wires bits p u f start small h told =
     let b : Bound = record { gates = map gate_view gates; steps = steps; wires = wires; bits = bits; registers = [] } in
     subst (λ (e : InlineFault). IsInlineFault b e) (sym told)
-    (unwritten_fault-told b u small (subst (λ (q : Progress). IsUnwritten (gates_of q) steps u) start h))
+    (unwritten_fault-told b u small (subst (λ (q : Progress). IsUnwrittenFault (gate_views q) steps u) start h))

@@ -2,13 +2,13 @@
 --     call_answer gates below c   the operations of a call of one of the first gates
 --     asked_answer ms c, asked_size ss c  the operations and the size of a call, or of none
 --     frame_answer gates f        those of what is left of a body
---     body_answer gates o         the same, or nothing;  one_frame o: as a list
+--     optional_frame_answer gates o  the same, or nothing;  one_frame o: as a list
 --     entered_answer gates e      those of an operation, and of a body
 --     frames_answer gates fs      those of several, the last one first
 --     frame_room, body_room, frames_room  a number that falls with each line
 use Rattle.std.specs.Prelude.{ℕ, ◌+◌, ◌*◌, List, [], ◌∷◌, Option, Some, None, Ok, map, take}
 use Rattle.gate_library.specs.Gates.{BoundGate}
-use Rattle.gate_library.specs.Views.{item as item_view}
+use Rattle.gate_library.specs.Views.{item_view}
 use Rattle.gate_inline.specs.Meanings.{Evaluation, Meaning, body_answer as items_answer, followed, meaning_at, meanings, one_op}
 use Rattle.gate_inline.specs.Sizes.{item_size, size, size_all, size_at, sizes}
 use Rattle.gate_inline.specs.declared.body.Call.{Call}
@@ -30,16 +30,16 @@ asked_size ss (Some c) = size_at ss c.gate
 abbrev pub frame_answer : List BoundGate → Frame → Evaluation
 frame_answer gates f = items_answer (meanings (take f.own gates)) (map item_view f.rest.now) f.angles.items f.wires.items
 
-abbrev pub body_answer : List BoundGate → Option Frame → Evaluation
-body_answer gates None = Ok []
-body_answer gates (Some f) = frame_answer gates f
+abbrev pub optional_frame_answer : List BoundGate → Option Frame → Evaluation
+optional_frame_answer gates None = Ok []
+optional_frame_answer gates (Some f) = frame_answer gates f
 
 abbrev pub one_frame : Option Frame → List Frame
 one_frame None = []
 one_frame (Some f) = f ∷ []
 
 abbrev pub entered_answer : List BoundGate → Entered → Evaluation
-entered_answer gates e = followed (Ok (one_op e.op)) (body_answer gates e.body)
+entered_answer gates e = followed (Ok (one_op e.op)) (optional_frame_answer gates e.body)
 
 abbrev pub frames_answer : List BoundGate → List Frame → Evaluation
 frames_answer gates [] = Ok []

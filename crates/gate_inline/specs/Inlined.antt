@@ -4,18 +4,18 @@
 --     IsInlined b o       o are the operations and reads of a program without a refusal
 --     IsTooMany gates steps n     step n, counted from 1, is the first with which there is too much
 --     IsFirstUnvalued gates steps e n     step n is the first with an angle that isn't exact, which is told by e
---     code r              its number
+--     inline_code r       its number
 --     refusal_of e        the refusal of such an angle
 --     IsInlineRefused b r n     the program's refusal: too much anywhere comes before angles
 --     stopped_at s n, unwritten_fault u   a stop at step n, and what is told of it
---     IsInlineFault b e   what may be told of the program;  IsUnwritten gates steps e: where there isn't too much
+--     IsInlineFault b e   what may be told of the program;  IsUnwrittenFault gates steps e: where there isn't too much
 use Rattle.std.specs.Prelude.{◌≡◌, ℕ, ◌+◌, List, [], ◌∷◌, ◌++◌, Ok, Err, true, false, length, map, IsOk}
 use Rattle.gate_library.specs.Gates.{BoundGate}
 use Rattle.qasm_check.specs.Bound.{Bound}
-use Rattle.qasm_check.specs.Steps.{Step}
+use Rattle.qasm_check.specs.Steps.{BoundStep}
 use Rattle.gate_inline.specs.Meanings.{Evaluation, joined, meanings, step_answer}
 use Rattle.gate_inline.specs.Reads.{reads}
-use Rattle.gate_inline.specs.Sizes.{is_too_much, total}
+use Rattle.gate_inline.specs.Sizes.{is_too_much, total_size}
 use Rattle.gate_inline.specs.declared.refusal.InlineRefusal.{InlineRefusal}
 use Rattle.gate_inline.specs.declared.refusal.InlineRefusal.TheVariants.{AngleForm, AngleZero, AngleRange, AngleStep, TooManyOps}
 use Rattle.gate_inline.specs.declared.refusal.InlineFault.{InlineFault}
@@ -28,36 +28,36 @@ use Rattle.gate_inline.specs.declared.stop.InlineStop.TheVariants.{NoMemory as E
 use Rattle.gate_inline.specs.declared.stop.AngleRefusal.{AngleRefusal}
 use Rattle.gate_inline.specs.declared.stop.AngleRefusal.TheVariants.{NoForm, ByZero, TooLarge, NoStep}
 
-abbrev pub answers : List BoundGate → List Step → List Evaluation
+abbrev pub answers : List BoundGate → List BoundStep → List Evaluation
 answers gates steps = map (step_answer (meanings gates)) steps
 
-abbrev pub operations : List BoundGate → List Step → Evaluation
+abbrev pub operations : List BoundGate → List BoundStep → Evaluation
 operations gates steps = joined (answers gates steps)
 
 pub record IsInlined (b : Bound) (o : Ops) : Type 0 where
-  pub small : is_too_much (total b.gates b.steps) ≡ false
+  pub small : is_too_much (total_size b.gates b.steps) ≡ false
   pub wires : o.wires ≡ b.wires
   pub list : operations b.gates b.steps ≡ Ok o.list
   pub reads : o.reads ≡ reads b.bits b.steps
 
-abbrev pub IsTooMany : List BoundGate → List Step → ℕ → Type 0
+abbrev pub IsTooMany : List BoundGate → List BoundStep → ℕ → Type 0
 IsTooMany gates steps n =
-    (before : List Step) × (s : Step) × (rest : List Step)
+    (before : List BoundStep) × (s : BoundStep) × (rest : List BoundStep)
     × (steps ≡ before ++ s ∷ rest) × (n ≡ length before + 1)
-    × (is_too_much (total gates before) ≡ false) × (is_too_much (total gates (before ++ s ∷ [])) ≡ true)
+    × (is_too_much (total_size gates before) ≡ false) × (is_too_much (total_size gates (before ++ s ∷ [])) ≡ true)
 
-abbrev pub IsFirstUnvalued : List BoundGate → List Step → AngleRefusal → ℕ → Type 0
+abbrev pub IsFirstUnvalued : List BoundGate → List BoundStep → AngleRefusal → ℕ → Type 0
 IsFirstUnvalued gates steps e n =
-    (before : List Step) × (s : Step) × (rest : List Step)
+    (before : List BoundStep) × (s : BoundStep) × (rest : List BoundStep)
     × (steps ≡ before ++ s ∷ rest) × (n ≡ length before + 1)
     × IsOk (operations gates before) × (step_answer (meanings gates) s ≡ Err e)
 
-abbrev pub code : InlineRefusal → ℕ
-code AngleForm = 40
-code AngleZero = 41
-code AngleRange = 42
-code AngleStep = 43
-code TooManyOps = 44
+abbrev pub inline_code : InlineRefusal → ℕ
+inline_code AngleForm = 40
+inline_code AngleZero = 41
+inline_code AngleRange = 42
+inline_code AngleStep = 43
+inline_code TooManyOps = 44
 
 abbrev pub refusal_of : AngleRefusal → InlineRefusal
 refusal_of NoForm = AngleForm
@@ -67,10 +67,10 @@ refusal_of NoStep = AngleStep
 
 abbrev pub IsInlineRefused : Bound → InlineRefusal → ℕ → Type 0
 IsInlineRefused b TooManyOps n = IsTooMany b.gates b.steps n
-IsInlineRefused b AngleForm n = (is_too_much (total b.gates b.steps) ≡ false) × IsFirstUnvalued b.gates b.steps NoForm n
-IsInlineRefused b AngleZero n = (is_too_much (total b.gates b.steps) ≡ false) × IsFirstUnvalued b.gates b.steps ByZero n
-IsInlineRefused b AngleRange n = (is_too_much (total b.gates b.steps) ≡ false) × IsFirstUnvalued b.gates b.steps TooLarge n
-IsInlineRefused b AngleStep n = (is_too_much (total b.gates b.steps) ≡ false) × IsFirstUnvalued b.gates b.steps NoStep n
+IsInlineRefused b AngleForm n = (is_too_much (total_size b.gates b.steps) ≡ false) × IsFirstUnvalued b.gates b.steps NoForm n
+IsInlineRefused b AngleZero n = (is_too_much (total_size b.gates b.steps) ≡ false) × IsFirstUnvalued b.gates b.steps ByZero n
+IsInlineRefused b AngleRange n = (is_too_much (total_size b.gates b.steps) ≡ false) × IsFirstUnvalued b.gates b.steps TooLarge n
+IsInlineRefused b AngleStep n = (is_too_much (total_size b.gates b.steps) ≡ false) × IsFirstUnvalued b.gates b.steps NoStep n
 
 abbrev pub IsInlineFault : Bound → InlineFault → Type 0
 IsInlineFault b (Refuses r) = IsInlineRefused b r.refusal r.statement
@@ -85,6 +85,6 @@ unwritten_fault Short = NoMemory
 unwritten_fault (AngleRefused e n) = Refuses (record { refusal = refusal_of e; statement = n })
 
 -- where there isn't too much
-abbrev pub IsUnwritten : List BoundGate → List Step → Unwritten → Type 0
-IsUnwritten gates steps (AngleRefused e n) = IsFirstUnvalued gates steps e n
-IsUnwritten gates steps Short = Unit {0}
+abbrev pub IsUnwrittenFault : List BoundGate → List BoundStep → Unwritten → Type 0
+IsUnwrittenFault gates steps (AngleRefused e n) = IsFirstUnvalued gates steps e n
+IsUnwrittenFault gates steps Short = Unit {0}

@@ -3,7 +3,7 @@
 --     unvalued_of e, unvalued r   the refusal of an angle that has a fault; the same of what may have one
 --     followed a b        one list and then the other, or the first refusal
 --     joined answers      all lists one after another, or the first refusal
---     step_of o           the number of steps of pi/4, or the refusal of an angle that has none
+--     angle_step o        the number of steps of pi/4, or the refusal of an angle that has none
 --     eighth a            an angle in units of pi/4, below 8
 --     rotation angles wires, controlled wires     what U and CX do
 --     one_op o            an operation as a list, or nothing
@@ -27,7 +27,7 @@ use Rattle.unitary_model.specs.declared.Op.TheVariants.{U, Cx}
 use Rattle.gate_library.specs.Gates.{Item, call, barrier, BoundGate, u, cx, opaque, composed}
 use Rattle.gate_library.specs.Operands.{broadcast, upto, wire_at}
 use Rattle.gate_library.specs.declared.operand.Operand.{Operand}
-use Rattle.qasm_check.specs.Steps.{Step, applies, measures, bars, nothing}
+use Rattle.qasm_check.specs.Steps.{BoundStep, applies, measures, barrier_on, nothing}
 use Rattle.linear_forms.specs.Values.{and_next, values}
 use Rattle.gate_inline.specs.declared.stop.AngleRefusal.{AngleRefusal}
 use Rattle.gate_inline.specs.declared.stop.AngleRefusal.TheVariants.{NoForm, ByZero, TooLarge, NoStep}
@@ -52,12 +52,12 @@ joined [] = Ok []
 joined (a ∷ others) = followed a (joined others)
 
 -- ---- the gates that need no declaration
-abbrev pub step_of : Option ℕ → Result ℕ AngleRefusal
-step_of (Some k) = Ok k
-step_of None = Err NoStep
+abbrev pub angle_step : Option ℕ → Result ℕ AngleRefusal
+angle_step (Some k) = Ok k
+angle_step None = Err NoStep
 
 abbrev pub eighth : Angle → Result ℕ AngleRefusal
-eighth a = step_of (eighths_of a)
+eighth a = angle_step (eighths_of a)
 
 -- the three angles are turned to eighths from left to right
 abbrev pub rotation : List Angle → List ℕ → Evaluation
@@ -114,9 +114,9 @@ meanings gates = in_order gate_meaning gates
 abbrev pub broadcast_answer : List Meaning → ℕ → List Angle → List Operand → ℕ → Evaluation
 broadcast_answer ms gate angles operands n = joined (map (λ j. meaning_at ms gate angles (map (wire_at j) operands)) (upto n))
 
-abbrev pub step_answer : List Meaning → Step → Evaluation
+abbrev pub step_answer : List Meaning → BoundStep → Evaluation
 step_answer ms (applies gate angles operands) =
     and_next (unvalued (values [] angles)) (λ given. broadcast_answer ms gate given operands (broadcast operands))
 step_answer ms (measures qubit bit) = Ok []
-step_answer ms (bars operands) = Ok []
+step_answer ms (barrier_on operands) = Ok []
 step_answer ms nothing = Ok []

@@ -20,7 +20,7 @@ use Rattle.qasm_check.specs.Checking.{IsFineTree, bound}
 use Rattle.unitary_model.specs.declared.Op.{Op}
 use Rattle.gate_inline.specs.Inlined.{operations}
 use Rattle.gate_inline.specs.Reads.{reads}
-use Rattle.gate_inline.specs.Sizes.{is_too_much, total}
+use Rattle.gate_inline.specs.Sizes.{is_too_much, total_size}
 use Rattle.gate_inline.specs.Splits.{IsCutOf, named_once}
 use Rattle.program_parts.specs.Cuts.{Cut, uncut}
 
@@ -57,7 +57,7 @@ abbrev pub most_text_bytes : ℕ
 most_text_bytes = 4194304
 
 abbrev pub IsWithinLimits : Bound → Type 0
-IsWithinLimits b = is_too_much (total b.gates b.steps) ≡ false
+IsWithinLimits b = is_too_much (total_size b.gates b.steps) ≡ false
 
 pub record IsAccepted (text : List ℕ) (p : Program) : Type 0 where
   pub short : length text ≤ most_text_bytes

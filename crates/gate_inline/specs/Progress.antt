@@ -1,19 +1,19 @@
 -- Working form. What an inliner has written.
 --     Progress            gates, and what is written of them
---     gates_of p          its gates, apart from where their parts lie in memory
+--     gate_views p        its gates, apart from where their parts lie in memory
 --     at_start gates      nothing is written
---     written p us        these operations are written behind the others
+--     with_written p us   these operations are written behind the others
 --     IsInliner gates bodies sizes limits us places      what an inliner keeps beside these: the lines of their bodies, sizes that are those of the gates, limits below which they
 --                         come to nothing, and calls whose operations are those that they tell
---     HasWritten p a q     an answer's operations are written behind the others
---     IsUnderway p fs a q gs      an answer is written, or left to bodies that wait: fs wait before it, and gs behind
+--     AppendsAnswer p a q  an answer's operations are written behind the others
+--     IsAnswerUnderway p fs a q gs  an answer is written, or left to bodies that wait: fs wait before it, and gs behind
 use Rattle.std.specs.Prelude.{◌≡◌, ◌++◌, ℕ, List, [], Option, Ok, map}
 use Rattle.unitary_model.specs.declared.Op.{Op}
 use Rattle.gate_library.specs.Gates.{BoundGate}
-use Rattle.gate_library.specs.Views.{gate as gate_view}
+use Rattle.gate_library.specs.Views.{gate_view}
 use Rattle.gate_library.specs.declared.gate.BoundGate.{BoundGate as CodeGate}
 use Rattle.gate_library.specs.declared.gate.Item.{Item}
-use Rattle.gate_inline.specs.Capped.{capped}
+use Rattle.gate_inline.specs.Capped.{capped_size}
 use Rattle.gate_inline.specs.Frames.{frames_answer}
 use Rattle.linear_forms.specs.Lines.{gate_body}
 use Rattle.gate_inline.specs.Meanings.{Evaluation, followed, meanings}
@@ -30,28 +30,28 @@ pub record Progress : Type 0 where
   -- the operations so far
   pub list : List Op
 
-abbrev pub gates_of : Progress → List BoundGate
-gates_of p = map gate_view p.gates
+abbrev pub gate_views : Progress → List BoundGate
+gate_views p = map gate_view p.gates
 
 abbrev pub at_start : List CodeGate → Progress
 at_start gates = record { gates = gates; list = [] }
 
-abbrev pub written : Progress → List Op → Progress
-written p us = record { gates = p.gates; list = p.list ++ us }
+abbrev pub with_written : Progress → List Op → Progress
+with_written p us = record { gates = p.gates; list = p.list ++ us }
 
 pub record IsInliner (gates : List CodeGate) (bodies : List (List Item)) (sizes : List Size) (limits : List (Option ℕ)) (us : List Op) (places : List (Option Kept)) : Type 0 where
   pub lined : bodies ≡ map gate_body gates
-  pub sized : sizes ≡ map capped (sizes_of (map gate_view gates))
+  pub sized : sizes ≡ map capped_size (sizes_of (map gate_view gates))
   pub quiet : AreQuiet (meanings (map gate_view gates)) limits
   pub kept : AreKept (map gate_view gates) us places
 
-pub record HasWritten (p : Progress) (a : Evaluation) (q : Progress) : Type 0 where
+pub record AppendsAnswer (p : Progress) (a : Evaluation) (q : Progress) : Type 0 where
   pub gates : q.gates ≡ p.gates
   pub list : Ok q.list ≡ followed (Ok p.list) a
 
-pub record IsUnderway (p : Progress) (fs : List Frame) (a : Evaluation) (q : Progress) (gs : List Frame) : Type 0 where
+pub record IsAnswerUnderway (p : Progress) (fs : List Frame) (a : Evaluation) (q : Progress) (gs : List Frame) : Type 0 where
   pub gates : q.gates ≡ p.gates
   -- what is written, and then what is left
-  pub same : followed (Ok q.list) (frames_answer (gates_of p) gs) ≡ followed (Ok p.list) (followed a (frames_answer (gates_of p) fs))
+  pub same : followed (Ok q.list) (frames_answer (gate_views p) gs) ≡ followed (Ok p.list) (followed a (frames_answer (gate_views p) fs))
   -- and each body's operations are those from its start on
-  pub begun : AreBegun (gates_of p) q.list (Ok []) gs
+  pub begun : AreBegun (gate_views p) q.list (Ok []) gs

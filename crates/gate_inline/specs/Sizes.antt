@@ -7,13 +7,13 @@
 --                         so is a gate that has no body, or that isn't there
 --     sizes gates         those of each gate
 --     step_size ss s      a step: its gate's, so often as it is applied
---     steps_size ss steps     the sum over steps;  total gates steps: with the sizes of these gates
+--     steps_size ss steps     the sum over steps;  total_size gates steps: with the sizes of these gates
 --     most_operations, most_items     the most operations and items of a program
 --     is_too_much s       more operations or more items than the limits
 use Rattle.std.specs.Prelude.{ℕ, ◌+◌, ◌*◌, List, [], ◌∷◌, map, nat_lt, slice_get, unwrap_or, ◌||◌, Bool}
 use Rattle.gate_library.specs.Gates.{Item, call, barrier, BoundGate, u, cx, opaque, composed}
 use Rattle.gate_library.specs.Operands.{broadcast}
-use Rattle.qasm_check.specs.Steps.{Step, applies, measures, bars, nothing}
+use Rattle.qasm_check.specs.Steps.{BoundStep, applies, measures, barrier_on, nothing}
 use Rattle.gate_inline.specs.Meanings.{in_order}
 use Rattle.gate_inline.specs.declared.size.Size.{Size}
 
@@ -46,17 +46,17 @@ gate_size ss (composed params qubits body) = size_plus (size 0 1) (size_all (map
 abbrev pub sizes : List BoundGate → List Size
 sizes gates = in_order gate_size gates
 
-abbrev pub step_size : List Size → Step → Size
+abbrev pub step_size : List Size → BoundStep → Size
 step_size ss (applies gate angles operands) = size_times (broadcast operands) (size_at ss gate)
 step_size ss (measures qubit bit) = size 0 0
-step_size ss (bars operands) = size 0 0
+step_size ss (barrier_on operands) = size 0 0
 step_size ss nothing = size 0 0
 
-abbrev pub steps_size : List Size → List Step → Size
+abbrev pub steps_size : List Size → List BoundStep → Size
 steps_size ss steps = size_all (map (step_size ss) steps)
 
-abbrev pub total : List BoundGate → List Step → Size
-total gates steps = steps_size (sizes gates) steps
+abbrev pub total_size : List BoundGate → List BoundStep → Size
+total_size gates steps = steps_size (sizes gates) steps
 
 abbrev pub most_operations : ℕ
 most_operations = 65536

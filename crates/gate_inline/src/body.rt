@@ -2,7 +2,7 @@
 
 ghost use Rattle.std.specs.Prelude.{◌≡◌, ◌*◌, ◌<◌, [], ◌∷◌, ◌++◌, List, MatchOption, Ok, Some, IfOk, IfErr, IfSome, OnOk, map, slice_get, take};
 ghost use Rattle.std.specs.Option.{option_map};
-ghost use Rattle.gate_library.specs.Views.{gate as gate_view, item as item_view};
+ghost use Rattle.gate_library.specs.Views.{gate_view, item_view};
 ghost use Rattle.gate_inline.specs.declared.size.Size.{Size};
 ghost use Rattle.gate_inline.specs.declared.stop.InlineStop.TheVariants.{NoMemory};
 ghost use Rattle.gate_inline.specs.Frames.{asked_answer, asked_size, body_room, call_answer, entered_answer, one_frame};
@@ -10,7 +10,7 @@ ghost use Rattle.linear_forms.specs.Lines.{gate_body};
 ghost use Rattle.gate_inline.specs.Meanings.{Meaning, controlled as controlled_of, item_answer, one_op, rotation as rotation_of, wire_of as wire_there};
 ghost use Rattle.gate_inline.specs.Remembered.{frame_meaning};
 ghost use Rattle.gate_inline.specs.Sizes.{item_size, size_at, sizes as sizes_of};
-ghost use Rattle.gate_inline.specs.Stops.{IsStop};
+ghost use Rattle.gate_inline.specs.Stops.{IsInlineStop};
 
 use crate::stop::InlineStop;
 use crate::value::{eighth, values};
@@ -61,7 +61,7 @@ fn wires_of(alloc: Global, wires: &[u32], places: &[usize]) -> Result<Vec<u32>, 
 /// The rotation at three angles, in eighths, on one wire; none at other numbers of them.
 fn rotation(angles: &[Angle], wires: &[u32]) -> Result<Option<Op>, InlineStop>
     ensures ok { IfOk result (λ o. rotation_of angles.now wires.now ≡ Ok (one_op o)) }
-    ensures err { IfErr result (IsStop (rotation_of angles.now wires.now)) }
+    ensures err { IfErr result (IsInlineStop (rotation_of angles.now wires.now)) }
 {
     if angles.len() != 3 || wires.len() != 1 {
         return Ok(None);
@@ -119,7 +119,7 @@ pub fn enter<'a, 'b>(
 ) -> Result<Entered<'a, 'b>, InlineStop>
     requires lined { map (λ b. b.items) bodies.now ≡ map gate_body gates.now }
     ensures ok { IfOk result (λ e. call_answer (map gate_view gates.now) below call ≡ entered_answer (map gate_view gates.now) e) }
-    ensures err { IfErr result (IsStop (call_answer (map gate_view gates.now) below call)) }
+    ensures err { IfErr result (IsInlineStop (call_answer (map gate_view gates.now) below call)) }
     ensures begun { IfOk result (λ e. IfSome e.body (λ f. (f.start ≡ start) × (frame_meaning (map gate_view gates.now) f ≡ call_answer (map gate_view gates.now) below call))) }
     ensures room { IfOk result (λ e. body_room (map gate_view gates.now) e.body < 2 * (size_at (sizes_of (take below (map gate_view gates.now))) call.gate).items) }
 {
@@ -192,7 +192,7 @@ pub fn call_of(
 ) -> Result<Option<Call>, InlineStop>
     ensures ok { IfOk result (λ o. (ms : List Meaning) → item_answer ms params.now wires.now (item_view line.now) ≡ asked_answer ms o) }
     ensures size { IfOk result (λ o. (ss : List Size) → item_size ss (item_view line.now) ≡ asked_size ss o) }
-    ensures err { IfErr result (λ e. (ms : List Meaning) → IsStop (item_answer ms params.now wires.now (item_view line.now)) e) }
+    ensures err { IfErr result (λ e. (ms : List Meaning) → IsInlineStop (item_answer ms params.now wires.now (item_view line.now)) e) }
 {
     match line.item() {
         Item::Call {

@@ -2,19 +2,19 @@
 
 ghost use Rattle.std.specs.Prelude.{◌≡◌, ℕ, ◌+◌, ◌*◌, ◌<◌, ◌≤◌, ◌^◌, [], ◌∷◌, ◌++◌, All, Ok, IfOk, IfErr, IfSome, OnOk, false, length, map, take, true};
 ghost use Rattle.gate_library.specs.Operands.{broadcast as broadcast_of, wire_at as wire_there};
-ghost use Rattle.gate_library.specs.Views.{gate as gate_view};
-ghost use Rattle.gate_inline.specs.Capped.{capped};
+ghost use Rattle.gate_library.specs.Views.{gate_view};
+ghost use Rattle.gate_inline.specs.Capped.{capped_size};
 ghost use Rattle.gate_inline.specs.Frames.{call_answer, frame_answer, frame_room, frames_room};
 ghost use Rattle.linear_forms.specs.Lines.{gate_body};
 ghost use Rattle.gate_inline.specs.Meanings.{broadcast_answer, meaning_at, meanings, one_op, step_answer};
 ghost use Rattle.gate_inline.specs.Placed.{IsPlaced};
-ghost use Rattle.gate_inline.specs.Progress.{IsUnderway, HasWritten, at_start, gates_of, written};
+ghost use Rattle.gate_inline.specs.Progress.{IsAnswerUnderway, AppendsAnswer, at_start, gate_views, with_written};
 ghost use Rattle.gate_inline.specs.Quiet.{AreQuiet};
 ghost use Rattle.gate_inline.specs.Remembered.{AreBegun, IsKept, IsPart, part};
 ghost use Rattle.gate_inline.specs.Sizes.{size_at, sizes as sizes_of};
-ghost use Rattle.gate_inline.specs.Stops.{IsStop};
+ghost use Rattle.gate_inline.specs.Stops.{IsInlineStop};
 ghost use Rattle.gate_inline.specs.declared.stop.InlineStop.TheVariants.{NoMemory};
-ghost use Rattle.qasm_check.specs.StepViews.{step as step_view};
+ghost use Rattle.qasm_check.specs.StepViews.{step_view};
 
 use crate::body::{Call, Entered, Frame, call_of, enter, push_body, split};
 use crate::memo::{Kept, Memo};
@@ -86,7 +86,7 @@ impl<'a, 'b> Inliner<'a, 'b> {
         limits: Vec<Option<u64>>,
     ) -> Inliner<'a, 'b>
         requires lined { map (λ b. b.items) bodies.now ≡ map gate_body gates.now }
-        requires sized { sizes.items ≡ map capped (sizes_of (map gate_view gates.now)) }
+        requires sized { sizes.items ≡ map capped_size (sizes_of (map gate_view gates.now)) }
         requires limits { AreQuiet (meanings (map gate_view gates.now)) limits.items }
         ensures value { result ≡ at_start gates.now }
     {
@@ -138,14 +138,14 @@ impl<'a, 'b> Inliner<'a, 'b> {
 
     /// Whether a call of one of the first `below` gates has no operation and no refusal, as the gate's limit tells.
     fn skips(&self, below: usize, call: &Call) -> bool
-        ensures { result ≡ true → call_answer (gates_of self.now) below call.now ≡ Ok [] }
+        ensures { result ≡ true → call_answer (gate_views self.now) below call.now ≡ Ok [] }
     {
         call.gate < below && is_nothing(&self.limits, call.gate, &call.angles)
     }
 
     /// Where the operations of a call of one of the first `below` gates stand, if it is remembered.
     fn recalled(&self, below: usize, call: &Call) -> Option<(usize, usize)>
-        ensures { IfSome result (λ p. IsPart (call_answer (gates_of self.now) below call.now) self.now.list p.0 p.1) }
+        ensures { IfSome result (λ p. IsPart (call_answer (gate_views self.now) below call.now) self.now.list p.0 p.1) }
     {
         if call.gate >= below {
             return None;
@@ -161,7 +161,7 @@ impl<'a, 'b> Inliner<'a, 'b> {
 
     /// Remembers a call whose operations are written.
     fn keep(&mut self, alloc: Global, kept: Kept) -> Result<(), AllocError>
-        requires { IsKept (gates_of self.old) self.old.list kept }
+        requires { IsKept (gate_views self.old) self.old.list kept }
         ensures { self.new ≡ self.old }
     {
         self.memo.keep(alloc, kept)
@@ -171,7 +171,7 @@ impl<'a, 'b> Inliner<'a, 'b> {
     fn write_again(&mut self, start: usize, end: usize) -> Result<(), InlineStop>
         requires order { start ≤ end }
         requires within { end ≤ length self.old.list }
-        ensures ok { OnOk result (self.new ≡ written self.old (part self.old.list start end)) }
+        ensures ok { OnOk result (self.new ≡ with_written self.old (part self.old.list start end)) }
         ensures err { IfErr result (λ e. e ≡ NoMemory) }
     {
         self.list.extend_from_within(start..end)?;
@@ -180,7 +180,7 @@ impl<'a, 'b> Inliner<'a, 'b> {
 
     /// Puts an operation behind the others, if there is one.
     fn push_op(&mut self, op: Option<Op>) -> Result<(), InlineStop>
-        ensures ok { OnOk result (self.new ≡ written self.old (one_op op)) }
+        ensures ok { OnOk result (self.new ≡ with_written self.old (one_op op)) }
         ensures err { IfErr result (λ e. e ≡ NoMemory) }
     {
         if let Some(op) = op {
@@ -196,11 +196,11 @@ impl<'a, 'b> Inliner<'a, 'b> {
         call: Call,
         frames: &mut Vec<Frame<'a, 'b>>,
     ) -> Result<(), InlineStop>
-        requires begun { AreBegun (gates_of self.old) self.old.list (call_answer (gates_of self.old) below call) frames.old.items }
-        ensures ok { OnOk result (IsUnderway self.old frames.old.items (call_answer (gates_of self.old) below call) self.new frames.new.items) }
-        ensures err { IfErr result (IsStop (call_answer (gates_of self.old) below call)) }
-        ensures room { OnOk result (frames_room (gates_of self.old) frames.new.items
-            < frames_room (gates_of self.old) frames.old.items + 2 * (size_at (sizes_of (take below (gates_of self.old))) call.gate).items) }
+        requires begun { AreBegun (gate_views self.old) self.old.list (call_answer (gate_views self.old) below call) frames.old.items }
+        ensures ok { OnOk result (IsAnswerUnderway self.old frames.old.items (call_answer (gate_views self.old) below call) self.new frames.new.items) }
+        ensures err { IfErr result (IsInlineStop (call_answer (gate_views self.old) below call)) }
+        ensures room { OnOk result (frames_room (gate_views self.old) frames.new.items
+            < frames_room (gate_views self.old) frames.old.items + 2 * (size_at (sizes_of (take below (gate_views self.old))) call.gate).items) }
     {
         if self.skips(below, &call) {
             return Ok(());
@@ -222,11 +222,11 @@ impl<'a, 'b> Inliner<'a, 'b> {
         frame: Frame<'a, 'b>,
         frames: &mut Vec<Frame<'a, 'b>>,
     ) -> Result<(), InlineStop>
-        requires begun { AreBegun (gates_of self.old) self.old.list (Ok []) (frames.old.items ++ frame ∷ []) }
-        ensures ok { OnOk result (IsUnderway self.old frames.old.items (frame_answer (gates_of self.old) frame.entry) self.new frames.new.items) }
-        ensures err { IfErr result (IsStop (frame_answer (gates_of self.old) frame.entry)) }
-        ensures room { OnOk result (frames_room (gates_of self.old) frames.new.items
-            < frames_room (gates_of self.old) frames.old.items + frame_room (gates_of self.old) frame.entry) }
+        requires begun { AreBegun (gate_views self.old) self.old.list (Ok []) (frames.old.items ++ frame ∷ []) }
+        ensures ok { OnOk result (IsAnswerUnderway self.old frames.old.items (frame_answer (gate_views self.old) frame.entry) self.new frames.new.items) }
+        ensures err { IfErr result (IsInlineStop (frame_answer (gate_views self.old) frame.entry)) }
+        ensures room { OnOk result (frames_room (gate_views self.old) frames.new.items
+            < frames_room (gate_views self.old) frames.old.items + frame_room (gate_views self.old) frame.entry) }
     {
         let Frame {
             own,
@@ -267,8 +267,8 @@ impl<'a, 'b> Inliner<'a, 'b> {
     /// Puts the operations of a gate behind the others. Bodies that wait for others are kept in a list, so that a long
     /// chain of gates needs no deep stack.
     fn write_out(&mut self, alloc: Global, call: Call) -> Result<(), InlineStop>
-        ensures ok { OnOk result (HasWritten self.old (meaning_at (meanings (gates_of self.old)) call.gate call.angles.items call.wires.items) self.new) }
-        ensures err { IfErr result (IsStop (meaning_at (meanings (gates_of self.old)) call.gate call.angles.items call.wires.items)) }
+        ensures ok { OnOk result (AppendsAnswer self.old (meaning_at (meanings (gate_views self.old)) call.gate call.angles.items call.wires.items) self.new) }
+        ensures err { IfErr result (IsInlineStop (meaning_at (meanings (gate_views self.old)) call.gate call.angles.items call.wires.items)) }
     {
         let mut frames = Vec::new(alloc);
         let below = self.count();
@@ -289,7 +289,7 @@ impl<'a, 'b> Inliner<'a, 'b> {
         j: u32,
     ) -> Result<bool, InlineStop>
         requires placed { All (λ p. wire_there j p < 2 ^ 32) places.now }
-        ensures ok { IfOk result (λ b. b ≡ true → HasWritten self.old (meaning_at (meanings (gates_of self.old)) gate angles.now (map (wire_there j) places.now)) self.new) }
+        ensures ok { IfOk result (λ b. b ≡ true → AppendsAnswer self.old (meaning_at (meanings (gate_views self.old)) gate angles.now (map (wire_there j) places.now)) self.new) }
         ensures none { IfOk result (λ b. b ≡ false → self.new ≡ self.old) }
         ensures err { IfErr result (λ e. e ≡ NoMemory) }
     {
@@ -313,8 +313,8 @@ impl<'a, 'b> Inliner<'a, 'b> {
         j: u32,
     ) -> Result<(), InlineStop>
         requires placed { All (λ p. wire_there j p < 2 ^ 32) places.now }
-        ensures ok { OnOk result (HasWritten self.old (meaning_at (meanings (gates_of self.old)) gate angles.now (map (wire_there j) places.now)) self.new) }
-        ensures err { IfErr result (IsStop (meaning_at (meanings (gates_of self.old)) gate angles.now (map (wire_there j) places.now))) }
+        ensures ok { OnOk result (AppendsAnswer self.old (meaning_at (meanings (gate_views self.old)) gate angles.now (map (wire_there j) places.now)) self.new) }
+        ensures err { IfErr result (IsInlineStop (meaning_at (meanings (gate_views self.old)) gate angles.now (map (wire_there j) places.now))) }
     {
         if self.write_alike(gate, angles, places, j)? {
             return Ok(());
@@ -336,8 +336,8 @@ impl<'a, 'b> Inliner<'a, 'b> {
         places: &[Operand],
     ) -> Result<(), InlineStop>
         requires placed { (j : ℕ) → j < broadcast_of places.now → All (λ p. wire_there j p < 2 ^ 32) places.now }
-        ensures ok { OnOk result (HasWritten self.old (broadcast_answer (meanings (gates_of self.old)) gate angles.now places.now (broadcast_of places.now)) self.new) }
-        ensures err { IfErr result (IsStop (broadcast_answer (meanings (gates_of self.old)) gate angles.now places.now (broadcast_of places.now))) }
+        ensures ok { OnOk result (AppendsAnswer self.old (broadcast_answer (meanings (gate_views self.old)) gate angles.now places.now (broadcast_of places.now)) self.new) }
+        ensures err { IfErr result (IsInlineStop (broadcast_answer (meanings (gate_views self.old)) gate angles.now places.now (broadcast_of places.now))) }
     {
         'indices: for j in 0..broadcast(places) {
             match self.write_index(alloc, gate, angles, places, j) {
@@ -352,8 +352,8 @@ impl<'a, 'b> Inliner<'a, 'b> {
     #[tactic(auto, using(crate::proofs::ProgressLaws::written_nothing))]
     pub fn write_step(&mut self, alloc: Global, step: &Step) -> Result<(), InlineStop>
         requires placed { IsPlaced (2 ^ 32) (2 ^ 32) (step_view step.now) }
-        ensures ok { OnOk result (HasWritten self.old (step_answer (meanings (gates_of self.old)) (step_view step.now)) self.new) }
-        ensures err { IfErr result (IsStop (step_answer (meanings (gates_of self.old)) (step_view step.now))) }
+        ensures ok { OnOk result (AppendsAnswer self.old (step_answer (meanings (gate_views self.old)) (step_view step.now)) self.new) }
+        ensures err { IfErr result (IsInlineStop (step_answer (meanings (gate_views self.old)) (step_view step.now))) }
     {
         match step {
             Step::Apply {

@@ -11,7 +11,7 @@ ghost use Rattle.gate_inline.specs.declared.refusal.InlineRefused.{InlineRefused
 ghost use Rattle.gate_inline.specs.declared.split.Split.{Split as InParts};
 ghost use Rattle.gate_library.specs.Gates.{BoundGate};
 ghost use Rattle.program_parts.specs.Cuts.{Cut, IsCut, whole};
-ghost use Rattle.qasm_check.specs.Steps.{Step as BoundStep};
+ghost use Rattle.qasm_check.specs.Steps.{BoundStep};
 ghost use Rattle.unitary_model.specs.declared.Op.{Op};
 
 /// A program with its names bound has one refusal at most: its statement and its code.

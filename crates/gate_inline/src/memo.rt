@@ -3,7 +3,7 @@
 ghost use Rattle.std.specs.Prelude.{◌≡◌, List, true, IfOk, IfSome, map};
 ghost use Rattle.unitary_model.specs.declared.Op.{Op};
 ghost use Rattle.gate_library.specs.Gates.{BoundGate};
-ghost use Rattle.gate_inline.specs.Capped.{capped};
+ghost use Rattle.gate_inline.specs.Capped.{capped_size};
 ghost use Rattle.gate_inline.specs.Meanings.{meaning_at, meanings};
 ghost use Rattle.gate_inline.specs.Remembered.{AreKept, IsKept, IsPart};
 ghost use Rattle.gate_inline.specs.Sizes.{size_at, sizes as sizes_of};
@@ -135,7 +135,7 @@ fn is_of(kept: &Kept, gate: usize, angles: &[Angle]) -> bool
 /// it has any operation.
 #[tactic(auto, using(crate::proofs::KeptLaws::same_quiet, crate::proofs::KeptLaws::same_wires))]
 fn is_same(kept: &Kept, sizes: &[Size], gate: usize, angles: &[Angle], wires: &[u32]) -> bool
-    ensures { result ≡ true → (gates : List BoundGate) → sizes.now ≡ map capped (sizes_of gates) →
+    ensures { result ≡ true → (gates : List BoundGate) → sizes.now ≡ map capped_size (sizes_of gates) →
         meaning_at (meanings gates) kept.now.gate kept.now.angles.items kept.now.wires.items ≡ meaning_at (meanings gates) gate angles.now wires.now }
 {
     if !is_of(kept, gate, angles) {
@@ -177,7 +177,7 @@ impl Memo {
         angles: &[Angle],
         wires: &[u32],
     ) -> Option<(usize, usize)>
-        ensures some { IfSome result (λ p. (gates : List BoundGate) (us : List Op) → sizes.now ≡ map capped (sizes_of gates) → AreKept gates us self.now.places.items →
+        ensures some { IfSome result (λ p. (gates : List BoundGate) (us : List Op) → sizes.now ≡ map capped_size (sizes_of gates) → AreKept gates us self.now.places.items →
             IsPart (meaning_at (meanings gates) gate angles.now wires.now) us p.0 p.1) }
     {
         match self.places.get(place_of(self.places.len(), gate, angles)) {

@@ -2,9 +2,9 @@
 
 ghost use Rattle.std.specs.Prelude.{◌≡◌, ℕ, ◌<◌, ◌≤◌, ◌^◌, [], All, Bool, IfOk, OnOk, drop, fold, length};
 ghost use Rattle.std.specs.List.{flat_map};
-ghost use Rattle.qasm_check.specs.StepViews.{step as step_view};
+ghost use Rattle.qasm_check.specs.StepViews.{step_view};
 ghost use Rattle.gate_library.specs.Operands.{wires_of};
-ghost use Rattle.gate_inline.specs.Parting.{AreMarked, IsOn, IsOnWires, cut_in, ended, named_of, so_far, with_wire};
+ghost use Rattle.gate_inline.specs.Parting.{AreMarked, IsOn, IsOnWires, cut_in, ended_at, named_of, so_far, with_wire};
 ghost use Rattle.gate_inline.specs.Splits.{if_some, once};
 
 use crate::barrier::Barrier;
@@ -95,7 +95,7 @@ fn end_with(
     parts: &mut Parts,
 ) -> Result<(), AllocError>
     requires start { parts.old.start ≤ length list.now }
-    ensures parts { OnOk result (so_far parts.new list.now ≡ ended (if_some wires.items) (so_far parts.old list.now)) }
+    ensures parts { OnOk result (so_far parts.new list.now ≡ ended_at (if_some wires.items) (so_far parts.old list.now)) }
     ensures start { OnOk result (parts.new.start ≤ length list.now) }
 {
     if wires.is_empty() {
@@ -121,7 +121,7 @@ pub fn end_part(
     requires marks_limit { length marks.old ≤ 2 ^ 32 }
     requires clear { AreMarked marks.old [] }
     requires start { parts.old.start ≤ length list.now }
-    ensures parts { OnOk result (so_far parts.new list.now ≡ ended (named_of (step_view step.now)) (so_far parts.old list.now)) }
+    ensures parts { OnOk result (so_far parts.new list.now ≡ ended_at (named_of (step_view step.now)) (so_far parts.old list.now)) }
     ensures start { OnOk result (parts.new.start ≤ length list.now) }
     ensures clear { OnOk result (AreMarked marks.new []) }
 {

@@ -3,14 +3,14 @@
 ghost use Rattle.std.specs.Prelude.{◌≡◌, ℕ, ◌+◌, ◌<◌, ◌^◌, [], Ok, IfOk, IfErr, All, None, false, map, length, slice_index_or};
 ghost use Rattle.std.specs.Option.{option_or};
 ghost use Rattle.qasm_check.specs.Steps.{measures};
-ghost use Rattle.gate_library.specs.Operands.{times, wire_at as wire_there};
-ghost use Rattle.qasm_check.specs.StepViews.{step as step_view};
-ghost use Rattle.gate_library.specs.Views.{gate as gate_view};
-ghost use Rattle.gate_inline.specs.Inlined.{IsInlineFault, IsInlined, IsUnwritten, operations as operations_of, refusal_of as refusal_there, stopped_at, unwritten_fault};
+ghost use Rattle.gate_library.specs.Operands.{wire_number, wire_at as wire_there};
+ghost use Rattle.qasm_check.specs.StepViews.{step_view};
+ghost use Rattle.gate_library.specs.Views.{gate_view};
+ghost use Rattle.gate_inline.specs.Inlined.{IsInlineFault, IsInlined, IsUnwrittenFault, operations as operations_of, refusal_of as refusal_there, stopped_at, unwritten_fault};
 ghost use Rattle.linear_forms.specs.Lines.{gate_body};
 ghost use Rattle.gate_inline.specs.Placed.{IsPlaced};
-ghost use Rattle.gate_inline.specs.Progress.{at_start, gates_of};
-ghost use Rattle.gate_inline.specs.Sizes.{is_too_much, total};
+ghost use Rattle.gate_inline.specs.Progress.{at_start, gate_views};
+ghost use Rattle.gate_inline.specs.Sizes.{is_too_much, total_size};
 ghost use Rattle.gate_inline.specs.Reads.{reads as reads_of, step_read};
 
 use crate::inliner::Inliner;
@@ -26,8 +26,8 @@ use unitary_model::Op;
 
 /// Measures a wire into a bit, or wire by wire a register into one of bits.
 fn measure(list: &mut [Option<u32>], qubit: &Operand, bit: &Operand)
-    requires same { times qubit.now ≡ times bit.now }
-    requires placed { (j : ℕ) → j < times bit.now → (wire_there j qubit.now < 2 ^ 32) × (wire_there j bit.now < length list.old) }
+    requires same { wire_number qubit.now ≡ wire_number bit.now }
+    requires placed { (j : ℕ) → j < wire_number bit.now → (wire_there j qubit.now < 2 ^ 32) × (wire_there j bit.now < length list.old) }
     ensures { (x : ℕ) → x < length list.old →
         slice_index_or list.new x None ≡ option_or (step_read (measures qubit.now bit.now) x) (slice_index_or list.old x None) }
 {
@@ -106,8 +106,8 @@ fn operations<'a, 'b>(
     requires steps_limit { length steps.now < 2 ^ 32 }
     requires placed { All (IsPlaced (2 ^ 32) (2 ^ 32)) (map step_view steps.now) }
     requires nothing { inliner.list ≡ [] }
-    ensures ok { IfOk result (λ v. operations_of (gates_of inliner.entry) (map step_view steps.now) ≡ Ok v.items) }
-    ensures err { IfErr result (IsUnwritten (gates_of inliner.entry) (map step_view steps.now)) }
+    ensures ok { IfOk result (λ v. operations_of (gate_views inliner.entry) (map step_view steps.now) ≡ Ok v.items) }
+    ensures err { IfErr result (IsUnwrittenFault (gate_views inliner.entry) (map step_view steps.now)) }
 {
     'steps: for (i, step) in steps.iter().enumerate() {
         match inliner.write_step(alloc, step) {
@@ -153,7 +153,7 @@ pub fn fitting_inliner<'a, 'b>(
     requires steps_limit { length steps.now < 2 ^ 32 }
     requires lined { map (λ b. b.items) bodies.now ≡ map gate_body gates.now }
     ensures start { IfOk result (λ s. s ≡ at_start gates.now) }
-    ensures small { IfOk result (λ _. is_too_much (total (map gate_view gates.now) (map step_view steps.now)) ≡ false) }
+    ensures small { IfOk result (λ _. is_too_much (total_size (map gate_view gates.now) (map step_view steps.now)) ≡ false) }
     ensures err { IfErr result (λ f. (wires bits : ℕ) → IsInlineFault (record { gates = map gate_view gates.now; steps = map step_view steps.now; wires = wires; bits = bits; registers = [] }) f) }
 {
     let sizes = sizes(alloc, gates)?;

@@ -3,9 +3,9 @@
 ghost use Rattle.std.specs.Prelude.{◌≡◌, ℕ, ◌+◌, ◌≤◌, List, [], Ok, IfOk, IfSome, map, true};
 ghost use Rattle.angle_fraction.specs.Fraction.{most_part};
 ghost use Rattle.gate_library.specs.Gates.{number as number_of};
-ghost use Rattle.gate_library.specs.Views.{formula as formula_view, gate as gate_view, item as item_view};
+ghost use Rattle.gate_library.specs.Views.{formula_view, gate_view, item_view};
 ghost use Rattle.gate_inline.specs.Meanings.{Meaning, body_answer, gate_meaning, item_answer, meaning_at, meanings};
-ghost use Rattle.gate_inline.specs.Quiet.{AreKeptWithin, AreQuiet, AreWithin, IsBounded, IsKeptWithin, IsNothingBy, IsWhole, IsWithin};
+ghost use Rattle.gate_inline.specs.Quiet.{AreKeptWithin, AreQuiet, AreAnglesUpTo, IsBounded, IsKeptWithin, IsNothingBy, IsWholeUpTo, IsAngleUpTo};
 
 use angle_fraction::{Angle, Frac};
 use qasm_check::{BoundGate, Formula, Item};
@@ -173,20 +173,20 @@ pub fn limits(alloc: Global, gates: &[BoundGate]) -> Result<Vec<Option<u64>>, Al
 
 /// Whether a part of an angle is whole, and at most so large.
 fn is_whole(limit: u64, part: &Frac) -> bool
-    ensures { result ≡ true → IsWhole limit part.now }
+    ensures { result ≡ true → IsWholeUpTo limit part.now }
 {
     part.den() == 1 && part.num().unsigned_abs() <= u128::from(limit)
 }
 
 fn is_within(limit: u64, angle: &Angle) -> bool
-    ensures { result ≡ true → IsWithin limit angle.now }
+    ensures { result ≡ true → IsAngleUpTo limit angle.now }
 {
     is_whole(limit, &angle.plain) && is_whole(limit, &angle.pis)
 }
 
 #[tactic(auto, using(crate::proofs::QuietLaws::within_more))]
 fn are_within(limit: u64, angles: &[Angle]) -> bool
-    ensures { result ≡ true → AreWithin limit angles.now }
+    ensures { result ≡ true → AreAnglesUpTo limit angles.now }
 {
     'angles: for angle in angles {
         if !is_within(limit, angle) {

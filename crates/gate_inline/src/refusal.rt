@@ -20,7 +20,7 @@ pub enum InlineRefusal {
 
 impl InlineRefusal {
     ghost use Rattle.std.specs.Prelude.{◌≡◌};
-    ghost use Rattle.gate_inline.specs.Inlined.{code as code_of};
+    ghost use Rattle.gate_inline.specs.Inlined.{inline_code as code_of};
 
     /// The number under which the refusal is told.
     pub fn code(self) -> u8

@@ -1,9 +1,9 @@
 //! How much a program becomes, before anything is written out.
 
 ghost use Rattle.std.specs.Prelude.{◌≡◌, ◌+◌, ◌<◌, false, true, IfNone, IfOk, IfSome, length, map, take};
-ghost use Rattle.qasm_check.specs.StepViews.{step as step_view};
-ghost use Rattle.gate_library.specs.Views.{gate as gate_view, item as item_view};
-ghost use Rattle.gate_inline.specs.Capped.{capped};
+ghost use Rattle.qasm_check.specs.StepViews.{step_view};
+ghost use Rattle.gate_library.specs.Views.{gate_view, item_view};
+ghost use Rattle.gate_inline.specs.Capped.{capped_size};
 ghost use Rattle.gate_inline.specs.Sizes.{gate_size as size_of_gate, is_too_much, size as size_from, item_size as size_of_item, size_all, size_at as size_there, size_plus, size_times, sizes as sizes_of, step_size as size_of_step, steps_size};
 
 use crate::{MOST_ITEMS, MOST_OPERATIONS};
@@ -19,7 +19,7 @@ pub struct Size {
 }
 
 fn plus(a: Size, b: Size) -> Size
-    ensures { result ≡ capped (size_plus a b) }
+    ensures { result ≡ capped_size (size_plus a b) }
 {
     Size {
         operations: a.operations.saturating_add(b.operations),
@@ -28,7 +28,7 @@ fn plus(a: Size, b: Size) -> Size
 }
 
 fn times(n: u32, a: Size) -> Size
-    ensures { result ≡ capped (size_times n a) }
+    ensures { result ≡ capped_size (size_times n a) }
 {
     Size {
         operations: u64::from(n).saturating_mul(a.operations),
@@ -70,7 +70,7 @@ fn item_size(sizes: &[Size], item: &Item) -> Size
 }
 
 fn body_size(sizes: &[Size], body: &[Item]) -> Size
-    ensures { result ≡ capped (size_all (map (size_of_item sizes.now) (map item_view body.now))) }
+    ensures { result ≡ capped_size (size_all (map (size_of_item sizes.now) (map item_view body.now))) }
 {
     let mut sum = Size {
         operations: 0,
@@ -83,7 +83,7 @@ fn body_size(sizes: &[Size], body: &[Item]) -> Size
 }
 
 fn gate_size(sizes: &[Size], gate: &BoundGate) -> Size
-    ensures { result ≡ capped (size_of_gate sizes.now (gate_view gate.now)) }
+    ensures { result ≡ capped_size (size_of_gate sizes.now (gate_view gate.now)) }
 {
     match gate {
         BoundGate::U | BoundGate::Cx => Size {
@@ -104,7 +104,7 @@ fn gate_size(sizes: &[Size], gate: &BoundGate) -> Size
 
 /// The sizes of gates, each by those before it.
 pub fn sizes(alloc: Global, gates: &[BoundGate]) -> Result<Vec<Size>, AllocError>
-    ensures ok { IfOk result (λ v. v.items ≡ map capped (sizes_of (map gate_view gates.now))) }
+    ensures ok { IfOk result (λ v. v.items ≡ map capped_size (sizes_of (map gate_view gates.now))) }
 {
     let mut list = Vec::with_capacity(alloc, gates.len())?;
     'gates: for gate in gates {
@@ -115,7 +115,7 @@ pub fn sizes(alloc: Global, gates: &[BoundGate]) -> Result<Vec<Size>, AllocError
 }
 
 fn step_size(sizes: &[Size], step: &Step) -> Size
-    ensures { result ≡ capped (size_of_step sizes.now (step_view step.now)) }
+    ensures { result ≡ capped_size (size_of_step sizes.now (step_view step.now)) }
 {
     match step {
         Step::Apply {

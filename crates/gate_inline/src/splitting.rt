@@ -1,12 +1,12 @@
 //! A program's operations in parts, and its reads.
 
 ghost use Rattle.std.specs.Prelude.{◌≡◌, ◌<◌, ◌≤◌, ◌^◌, [], All, IfOk, IfErr, length, map};
-ghost use Rattle.qasm_check.specs.StepViews.{step as step_view};
-ghost use Rattle.gate_library.specs.Views.{gate as gate_view};
-ghost use Rattle.gate_inline.specs.Inlined.{IsInlineFault, IsUnwritten};
+ghost use Rattle.qasm_check.specs.StepViews.{step_view};
+ghost use Rattle.gate_library.specs.Views.{gate_view};
+ghost use Rattle.gate_inline.specs.Inlined.{IsInlineFault, IsUnwrittenFault};
 ghost use Rattle.gate_inline.specs.Parting.{AreMarked, IsOnWires, cut_in, named_of};
 ghost use Rattle.gate_inline.specs.Placed.{IsPlaced};
-ghost use Rattle.gate_inline.specs.Progress.{gates_of};
+ghost use Rattle.gate_inline.specs.Progress.{gate_views};
 ghost use Rattle.gate_inline.specs.Splits.{IsCutBy, IsSplit};
 
 use crate::inliner::Inliner;
@@ -32,8 +32,8 @@ fn split_operations<'a, 'b>(
     requires on_wires { All (IsOnWires (length marks.old)) (map step_view steps.now) }
     requires marks_limit { length marks.old ≤ 2 ^ 32 }
     requires clear { AreMarked marks.old [] }
-    ensures ok { IfOk result (λ p. IsCutBy named_of (gates_of inliner.entry) (map step_view steps.now) (cut_in p)) }
-    ensures err { IfErr result (IsUnwritten (gates_of inliner.entry) (map step_view steps.now)) }
+    ensures ok { IfOk result (λ p. IsCutBy named_of (gate_views inliner.entry) (map step_view steps.now) (cut_in p)) }
+    ensures err { IfErr result (IsUnwrittenFault (gate_views inliner.entry) (map step_view steps.now)) }
 {
     let mut parts = Parts {
         done: Vec::new(alloc),

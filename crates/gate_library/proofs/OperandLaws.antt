@@ -9,7 +9,7 @@ use Rattle.std.proofs.lemmas.Bool.{cases_eq}
 use Rattle.std.proofs.lemmas.List.Folds.{list_any-append}
 use Rattle.std.proofs.Math.Seq.{drop-cons}
 use Rattle.gate_library.specs.Names.{has_repeat}
-use Rattle.gate_library.specs.Operands.{broadcast, broadcast_by, times, upto, wire_at, wires_of}
+use Rattle.gate_library.specs.Operands.{broadcast, broadcast_by, wire_number, upto, wire_at, wires_of}
 use Rattle.gate_library.specs.declared.operand.Operand.{Operand}
 use Rattle.gate_library.proofs.ListLaws.{list_any-map}
 
@@ -44,8 +44,8 @@ unfolding upto
 list_any_upto_zero p = refl
 
 -- ---- wires of an operand
-pub wires_of-any : (p : ℕ → Bool) (it : Operand) → list_any p (wires_of it) ≡ list_any (λ j. p (wire_at j it)) (upto (times it))
-wires_of-any p it = list_any-map p (λ j. wire_at j it) (upto (times it))
+pub wires_of-any : (p : ℕ → Bool) (it : Operand) → list_any p (wires_of it) ≡ list_any (λ j. p (wire_at j it)) (upto (wire_number it))
+wires_of-any p it = list_any-map p (λ j. wire_at j it) (upto (wire_number it))
 
 -- ---- how often
 by_none : (index : Option ℕ) (size others : ℕ) → is_none index ≡ true → broadcast_by index size others ≡ size

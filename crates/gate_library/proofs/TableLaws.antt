@@ -13,17 +13,17 @@ use Rattle.std.proofs.lemmas.List.{length-take, map_more}
 use Rattle.std.proofs.lemmas.List.Elements.{filter_more}
 use Rattle.angle_fraction.specs.Fraction.{fraction, lowest, common_factor, greatest_common, is_small}
 use Rattle.angle_fraction.specs.Angles.{fitted}
-use Rattle.gate_library.specs.Library.{is_standard, standard_names, table_index, table_names, whole}
-use Rattle.gate_library.specs.Listing.{added, standard}
+use Rattle.gate_library.specs.Library.{is_standard, standard_names, table_index, table_names, whole_fraction}
+use Rattle.gate_library.specs.Listing.{added_gates, standard}
 use Rattle.gate_library.specs.Names.{is_one_of}
 use Rattle.gate_library.specs.Rows.{Row, row_gate, row_gates}
 use Rattle.gate_library.proofs.ListLaws.{among-first, found-position, is_some-position, position-found, position-map}
 
-pub fitted-two : fitted (fraction (pos 2) 1) ≡ Ok (whole 2)
+pub fitted-two : fitted (fraction (pos 2) 1) ≡ Ok (whole_fraction 2)
 unfolding fitted lowest common_factor greatest_common is_small
 fitted-two = refl
 
-pub fitted-four : fitted (fraction (pos 4) 1) ≡ Ok (whole 4)
+pub fitted-four : fitted (fraction (pos 4) 1) ≡ Ok (whole_fraction 4)
 unfolding fitted lowest common_factor greatest_common is_small
 fitted-four = refl
 
@@ -46,11 +46,11 @@ unfolding table_index
 is_some-table_index name = is_some-position (λ y. bytes_eq name y) table_names
 
 names-length : length table_names ≡ 29
-unfolding table_names standard added
+unfolding table_names standard added_gates
 names-length = refl
 
 standard-first : standard_names ≡ take 22 table_names
-unfolding standard_names table_names standard added
+unfolding standard_names table_names standard added_gates
 standard-first = refl
 
 among-standard : (name : List ℕ) → is_standard name ≡ nat_lt (position_or_len (λ y. bytes_eq name y) table_names) 22

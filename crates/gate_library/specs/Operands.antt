@@ -1,7 +1,7 @@
 -- Operands, and what a broadcast over them is.
 --   Operand      a register of wires or bits, its first and its size, or one of them by its index
 --   wire_at      its wire at a broadcast index: a single one is repeated
---   times        how many wires it has
+--   wire_number  how many wires it has
 --   broadcast_by the size of an operand that is a whole register; for a single one, what the others ask for
 --   broadcast    how often a gate is applied to these: so often as a whole register has wires, once where there is none
 --   upto         the numbers below n
@@ -17,8 +17,8 @@ use Rattle.gate_library.specs.declared.operand.Operand.{Operand}
 abbrev pub wire_at : ℕ → Operand → ℕ
 wire_at j p = p.first + unwrap_or p.index j
 
-abbrev pub times : Operand → ℕ
-times p = elim p.index [ None ↦ p.size | Some i ↦ 1 ]
+abbrev pub wire_number : Operand → ℕ
+wire_number p = elim p.index [ None ↦ p.size | Some i ↦ 1 ]
 
 abbrev pub broadcast_by : Option ℕ → ℕ → ℕ → ℕ
 broadcast_by None size others = size
@@ -33,7 +33,7 @@ upto zero = []
 upto (suc n) = upto n ++ n ∷ []
 
 abbrev pub wires_of : Operand → List ℕ
-wires_of p = map (λ j. wire_at j p) (upto (times p))
+wires_of p = map (λ j. wire_at j p) (upto (wire_number p))
 
 abbrev pub differs_from : ℕ → Operand → Bool
 differs_from times p = elim p.index [ None ↦ not (p.size == times) | Some i ↦ false ]

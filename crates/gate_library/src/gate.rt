@@ -2,7 +2,7 @@
 
 ghost use Rattle.std.specs.Prelude.{◌≡◌};
 ghost use Rattle.gate_library.specs.Gates.{gate_params, gate_qubits, is_opaque};
-ghost use Rattle.gate_library.specs.Views.{gate};
+ghost use Rattle.gate_library.specs.Views.{gate_view};
 
 use crate::formula::Formula;
 
@@ -39,7 +39,7 @@ pub enum BoundGate {
 impl BoundGate {
     /// How many parameters it has.
     pub fn params(&self) -> usize
-        ensures value { result ≡ gate_params (gate self.now) }
+        ensures value { result ≡ gate_params (gate_view self.now) }
     {
         match self {
             BoundGate::U => 3,
@@ -55,7 +55,7 @@ impl BoundGate {
 
     /// How many qubits it has.
     pub fn qubits(&self) -> usize
-        ensures value { result ≡ gate_qubits (gate self.now) }
+        ensures value { result ≡ gate_qubits (gate_view self.now) }
     {
         match self {
             BoundGate::U => 1,
@@ -71,7 +71,7 @@ impl BoundGate {
 
     /// Whether it has no body and isn't `U` or `CX`.
     pub fn is_opaque(&self) -> bool
-        ensures value { result ≡ is_opaque (gate self.now) }
+        ensures value { result ≡ is_opaque (gate_view self.now) }
     {
         match self {
             BoundGate::Opaque {

@@ -5,10 +5,10 @@ ghost use Rattle.std.specs.List.{position};
 ghost use Rattle.std.specs.Str.{bytes_eq};
 ghost use Rattle.angle_fraction.specs.declared.signs.Binary.TheVariants.{Div};
 ghost use Rattle.gate_library.specs.Gates.{binary, cx, negated as minus, number, u};
-ghost use Rattle.gate_library.specs.Library.{is_standard, library, own_number, standard_names, table_index, table_names, whole};
+ghost use Rattle.gate_library.specs.Library.{is_standard, library, own_number, standard_names, table_index, table_names, whole_fraction};
 ghost use Rattle.gate_library.specs.Names.{is_one_of};
-ghost use Rattle.gate_library.specs.Rows.{lines_of, row, row_formula, row_gate, row_gates, row_item};
-ghost use Rattle.gate_library.specs.Views.{gate as gate_view, formula as formula_view, item as item_view};
+ghost use Rattle.gate_library.specs.Rows.{rows_of_gate, row, row_formula, row_gate, row_gates, row_item};
+ghost use Rattle.gate_library.specs.Views.{gate_view, formula_view, item_view};
 
 use crate::formula::{Formula, FormulaSides};
 use crate::gate::{BoundGate, Item};
@@ -105,7 +105,7 @@ pub fn own_number(included: bool, name: &[u8]) -> Option<usize>
 /// 2.
 #[tactic(auto, using(crate::proofs::TableLaws::tables))]
 fn two() -> Frac
-    ensures { result ≡ whole 2 }
+    ensures { result ≡ whole_fraction 2 }
 {
     match lowest(2, 1) {
         Ok(value) => value,
@@ -116,7 +116,7 @@ fn two() -> Frac
 /// 4.
 #[tactic(auto, using(crate::proofs::TableLaws::tables))]
 fn four() -> Frac
-    ensures { result ≡ whole 4 }
+    ensures { result ≡ whole_fraction 4 }
 {
     match lowest(4, 1) {
         Ok(value) => value,
@@ -204,7 +204,7 @@ fn item(alloc: Global, line: &Line) -> Result<Item, AllocError>
 /// The body of the gate of this number.
 #[tactic(auto, using(crate::proofs::TableLaws::tables))]
 fn body(alloc: Global, number: usize, lines: &[Line]) -> Result<Vec<Item>, AllocError>
-    ensures { IfOk result (λ v. map item_view v.items ≡ lines_of number (map row lines.now)) }
+    ensures { IfOk result (λ v. map item_view v.items ≡ rows_of_gate number (map row lines.now)) }
 {
     let mut list = Vec::new(alloc);
     'lines: for line in lines {

@@ -3,7 +3,7 @@
 ghost use Rattle.std.specs.Prelude.{◌≡◌, IfOk, map, nat_eq};
 ghost use Rattle.std.specs.List.{list_any};
 ghost use Rattle.gate_library.specs.Names.{has_repeat};
-ghost use Rattle.gate_library.specs.Operands.{broadcast, differs_from, measure_differs, repeats, times, wire_at};
+ghost use Rattle.gate_library.specs.Operands.{broadcast, differs_from, measure_differs, repeats, wire_number, wire_at};
 
 use crate::repeats::wires_repeat;
 use std::alloc::{AllocError, Global};
@@ -19,7 +19,7 @@ pub struct Operand {
 impl Operand {
     /// How many wires it has.
     pub fn count(&self) -> u32
-        ensures value { result ≡ times self.now }
+        ensures value { result ≡ wire_number self.now }
     {
         match self.index {
             None => self.size,

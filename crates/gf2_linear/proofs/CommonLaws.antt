@@ -6,7 +6,7 @@ use Rattle.std.specs.Prelude.{bit_and, bit_xor}
 use Rattle.std.specs.Int.RustNames.{count_ones}
 use Rattle.std.proofs.lemmas.Nat.{xor_block, xor_lt, and_block, and_le_l, ones_cat}
 use Rattle.std.proofs.lemmas.List.{drop_more}
-use Rattle.gf2_linear.specs.Words.{number_of}
+use Rattle.gf2_linear.specs.Words.{spelt_number}
 use Rattle.gf2_linear.proofs.WordLaws.{Fit}
 
 ones-bit : (x y : ℕ) → x < 2 → y < 2 → count_ones (bit_xor x y) % 2 ≡ (count_ones x + count_ones y) % 2
@@ -51,13 +51,13 @@ pub ones-xor : (a b : ℕ) → count_ones (bit_xor a b) % 2 ≡ (count_ones a + 
 ones-xor a b = ones-upto (a + b) a b (omega arith) (omega arith)
 
 pub ones-drop : (xs ys : List ℕ) (k : ℕ) → Fit xs → Fit ys → k < length xs → k < length ys
-    → count_ones (bit_and (number_of (drop k xs)) (number_of (drop k ys)))
-    ≡ count_ones (bit_and (number_of (drop (k + 1) xs)) (number_of (drop (k + 1) ys))) + count_ones (bit_and (get_or xs k 0) (get_or ys k 0))
+    → count_ones (bit_and (spelt_number (drop k xs)) (spelt_number (drop k ys)))
+    ≡ count_ones (bit_and (spelt_number (drop (k + 1) xs)) (spelt_number (drop (k + 1) ys))) + count_ones (bit_and (get_or xs k 0) (get_or ys k 0))
 ones-drop xs ys k f g l m =
     let fx : get_or xs k 0 < 2 ^ 64 = f k in
     let gy : get_or ys k 0 < 2 ^ 64 = g k in
     let low : bit_and (get_or xs k 0) (get_or ys k 0) ≤ get_or xs k 0 = and_le_l (get_or xs k 0) (get_or ys k 0) in
-    ap (λ (ws : List ℕ). count_ones (bit_and (number_of ws) (number_of (drop k ys)))) (drop_more xs k 0 l)
-    ∙ ap (λ (ws : List ℕ). count_ones (bit_and (number_of (drop (k + 1) xs) * 2 ^ 64 + get_or xs k 0) (number_of ws))) (drop_more ys k 0 m)
-    ∙ ap count_ones (and_block 64 (number_of (drop (k + 1) xs)) (number_of (drop (k + 1) ys)) (get_or xs k 0) (get_or ys k 0) fx gy)
-    ∙ ones_cat 64 (bit_and (number_of (drop (k + 1) xs)) (number_of (drop (k + 1) ys))) (bit_and (get_or xs k 0) (get_or ys k 0)) (omega arith)
+    ap (λ (ws : List ℕ). count_ones (bit_and (spelt_number ws) (spelt_number (drop k ys)))) (drop_more xs k 0 l)
+    ∙ ap (λ (ws : List ℕ). count_ones (bit_and (spelt_number (drop (k + 1) xs) * 2 ^ 64 + get_or xs k 0) (spelt_number ws))) (drop_more ys k 0 m)
+    ∙ ap count_ones (and_block 64 (spelt_number (drop (k + 1) xs)) (spelt_number (drop (k + 1) ys)) (get_or xs k 0) (get_or ys k 0) fx gy)
+    ∙ ones_cat 64 (bit_and (spelt_number (drop (k + 1) xs)) (spelt_number (drop (k + 1) ys))) (bit_and (get_or xs k 0) (get_or ys k 0)) (omega arith)

@@ -21,8 +21,8 @@ use Rattle.std.specs.Prelude.{slice_get, unwrap_or, Some}
 use Rattle.std.proofs.lemmas.Option.{unwrap_or-slice_get}
 use Rattle.std.proofs.lemmas.Nat.Bits.{bit_at_xor}
 use Rattle.std.proofs.lemmas.Bool.{cases_eq, cases_lt, eq-eqb, ne_eqb, false_from_ne_true}
-use Rattle.gf2_linear.specs.Matrices.{added, run, identity_rows, product, IsPair, IsInverse}
-use Rattle.gf2_linear.specs.Eliminations.{Pairs, From, unit_bit, IsNoted, IsFirstFrom, HasUnitColumn, IsRowStep}
+use Rattle.gf2_linear.specs.Matrices.{added, added_all, identity_rows, matrix_product, IsPair, IsInverse}
+use Rattle.gf2_linear.specs.Eliminations.{Pairs, From, unit_bit, IsNoted, IsPivotRow, HasUnitColumn, IsRowStep}
 use Rattle.gf2_linear.proofs.WireLaws.{both_one}
 use Rattle.gf2_linear.proofs.RunLaws.{Columns, columns-kept, length-run, run-append, added-at, added-other, columns-identity, no_pivot-dependent, run-free, run-independent, run-synth, run-inverse, pairs-append, pairs-reverse}
 use Rattle.gf2_linear.proofs.ProductLaws.{run-times}
@@ -36,14 +36,14 @@ from-append i [] ys a b = b
 from-append i (x ∷ xs) ys a b = (a.0, from-append i xs ys a.1 b)
 
 pub record Eliminated (source rest : List ℕ) (log : List (ℕ × ℕ)) (i : ℕ) : Type 0 where
-  pub rows : rest ≡ run source log
+  pub rows : rest ≡ added_all source log
   pub pairs : Pairs (length source) log
   pub few : length log ≤ i * length source
   pub columns : Columns rest i
 
 pub eliminated-none : (source rest : List ℕ) (log : List (ℕ × ℕ)) → rest ≡ source → log ≡ [] → Eliminated source rest log 0
 eliminated-none source rest log e l = record {
-  rows = e ∙ ap (run source) (sym l);
+  rows = e ∙ ap (added_all source) (sym l);
   pairs = subst (λ (k : List (ℕ × ℕ)). Pairs (length source) k) (sym l) tt;
   few = subst (λ (k : List (ℕ × ℕ)). length k ≤ 0 * length source) (sym l) (omega arith);
   columns = record { units = λ k j a b. absurd (omega arith) };
@@ -52,10 +52,10 @@ eliminated-none source rest log e l = record {
 pub eliminated-length : (source rest : List ℕ) (log : List (ℕ × ℕ)) (i : ℕ) → Eliminated source rest log i → length rest ≡ length source
 eliminated-length source rest log i h = ap length h.rows ∙ length-run source log
 
-noted-then : (source rest new : List ℕ) (log after : List (ℕ × ℕ)) (i most : ℕ) → length rest ≡ length source → rest ≡ run source log → Pairs (length source) log
-    → IsNoted rest new log after i most → (new ≡ run source after) × Pairs (length source) after × (length after ≤ length log + most)
+noted-then : (source rest new : List ℕ) (log after : List (ℕ × ℕ)) (i most : ℕ) → length rest ≡ length source → rest ≡ added_all source log → Pairs (length source) log
+    → IsNoted rest new log after i most → (new ≡ added_all source after) × Pairs (length source) after × (length after ≤ length log + most)
 noted-then source rest new log after i most n e p h = (
-  h.rows ∙ ap (λ (k : List ℕ). run k h.more) e ∙ sym (run-append source log h.more) ∙ ap (run source) (sym h.log),
+  h.rows ∙ ap (λ (k : List ℕ). added_all k h.more) e ∙ sym (run-append source log h.more) ∙ ap (added_all source) (sym h.log),
   subst (λ (k : List (ℕ × ℕ)). Pairs (length source) k) (sym h.log) (pairs-append (length source) log h.more p (subst (λ k. Pairs k h.more) n h.pairs)),
   (let l : length after ≡ length log + length h.more = ap length h.log ∙ length-append log h.more in omega (arith, l, h.few)),
 )
@@ -65,12 +65,12 @@ pub eliminated-more : (source rest mid new : List ℕ) (log log1 log2 : List (�
     → Eliminated source new log2 (i + 1)
 eliminated-more source rest mid new log log1 log2 i l h a b u =
     let n : length rest ≡ length source = eliminated-length source rest log i h in
-    let first : (mid ≡ run source log1) × Pairs (length source) log1 × (length log1 ≤ length log + 1) =
+    let first : (mid ≡ added_all source log1) × Pairs (length source) log1 × (length log1 ≤ length log + 1) =
     noted-then source rest mid log log1 i 1 n h.rows h.pairs a in
     let nm : length mid ≡ length source = ap length first.0 ∙ length-run source log1 in
     let q : ℕ = length source - 1 in
     let b' : IsNoted mid new log1 log2 i q = b q (omega (arith, nm, n, l)) in
-    let second : (new ≡ run source log2) × Pairs (length source) log2 × (length log2 ≤ length log1 + q) =
+    let second : (new ≡ added_all source log2) × Pairs (length source) log2 × (length log2 ≤ length log1 + q) =
     noted-then source mid new log1 log2 i q nm first.0 first.1 b' in
     let c1 : Columns mid i = subst (λ (k : List ℕ). Columns k i) (sym a.rows) (columns-kept rest i a.more a.pairs a.later h.columns) in
     let c2 : Columns new i = subst (λ (k : List ℕ). Columns k i) (sym b'.rows) (columns-kept mid i b'.more b'.pairs b'.later c1) in
@@ -92,7 +92,7 @@ eliminated-more source rest mid new log log1 log2 i l h a b u =
 pub raised-kept : (m new : List ℕ) (log after : List (ℕ × ℕ)) (i : ℕ) → new ≡ m → after ≡ log → IsNoted m new log after i 1
 raised-kept m new log after i e l = record { more = []; log = l ∙ sym (append-nil log); rows = e; few = omega arith; pairs = tt; later = tt }
 
-pub raised-added : (m new : List ℕ) (log after : List (ℕ × ℕ)) (i k : ℕ) → IsFirstFrom m i k → (k ≡ i → ⊥) → new ≡ added m (k, i) → after ≡ log ++ (k, i) ∷ [] → IsNoted m new log after i 1
+pub raised-added : (m new : List ℕ) (log after : List (ℕ × ℕ)) (i k : ℕ) → IsPivotRow m i k → (k ≡ i → ⊥) → new ≡ added m (k, i) → after ≡ log ++ (k, i) ∷ [] → IsNoted m new log after i 1
 raised-added m new log after i k f n e l = record {
   more = (k, i) ∷ [];
   log = l;
@@ -102,7 +102,7 @@ raised-added m new log after i k f n e l = record {
   later = (f.later, tt);
 }
 
-pub raised-has : (m new : List ℕ) (i k : ℕ) → IsFirstFrom m i k → (k ≡ i → ⊥) → new ≡ added m (k, i) → bit_at (get_or new i 0) i ≡ 1
+pub raised-has : (m new : List ℕ) (i k : ℕ) → IsPivotRow m i k → (k ≡ i → ⊥) → new ≡ added m (k, i) → bit_at (get_or new i 0) i ≡ 1
 raised-has m new i k f n e =
     ap (λ (q : List ℕ). bit_at (get_or q i 0) i) e ∙ ap (λ v. bit_at v i) (added-at m (k, i) (omega (arith, f.later, f.within)))
     ∙ zero_one (get_or m i 0) (get_or m k 0) i (f.first i (omega arith) (omega (arith, f.later, n))) f.has
@@ -114,7 +114,7 @@ raised-has m new i k f n e =
 pub record Cleared (old now : List ℕ) (before after : List (ℕ × ℕ)) (i row : ℕ) : Type 0 where
   pub more : List (ℕ × ℕ)
   pub log : after ≡ before ++ more
-  pub rows : now ≡ run old more
+  pub rows : now ≡ added_all old more
   pub few : (row ≤ i → length more ≤ row) × (i < row → length more + 1 ≤ row)
   pub pairs : Pairs (length old) more
   pub later : From i more
@@ -225,29 +225,29 @@ All-pairs n es a = go es (recursion_from_All (IsPair n) es a)
     go [] p = tt
     go (e ∷ es) p = (p.0, go es p.1)
 
-pub run-more : (m : List ℕ) (es : List (ℕ × ℕ)) (k : ℕ) (d : ℕ × ℕ) (sum : List ℕ) → k < length es → sum ≡ run m (take k es)
-    → added sum (get_or es k d) ≡ run m (take (k + 1) es)
+pub run-more : (m : List ℕ) (es : List (ℕ × ℕ)) (k : ℕ) (d : ℕ × ℕ) (sum : List ℕ) → k < length es → sum ≡ added_all m (take k es)
+    → added sum (get_or es k d) ≡ added_all m (take (k + 1) es)
 run-more m es k d sum l h =
     let s : k + 1 ≡ suc k = omega arith in
     ap (λ (q : List ℕ). added q (get_or es k d)) h ∙ sym (run-append m (take k es) (get_or es k d ∷ []))
-    ∙ ap (run m) (sym (take-suc es k d l)) ∙ ap (λ j. run m (take j es)) (sym s)
+    ∙ ap (added_all m) (sym (take-suc es k d l)) ∙ ap (λ j. added_all m (take j es)) (sym s)
 
-pub within-run : (m : List ℕ) (es : List (ℕ × ℕ)) (k j : ℕ) (sum : List ℕ) → sum ≡ run m (take k es) → j < length m → j < length sum
+pub within-run : (m : List ℕ) (es : List (ℕ × ℕ)) (k j : ℕ) (sum : List ℕ) → sum ≡ added_all m (take k es) → j < length m → j < length sum
 within-run m es k j sum h l = subst (λ n. j < n) (sym (ap length h ∙ length-run m (take k es))) l
 
 -- ---- the end
 pub eliminated-identity : (source rest : List ℕ) (log : List (ℕ × ℕ)) (i : ℕ) → i ≡ length source → ((k : ℕ) → get_or rest k 0 < 2 ^ length rest) → Eliminated source rest log i
-    → run source log ≡ identity_rows (length source)
+    → added_all source log ≡ identity_rows (length source)
 eliminated-identity source rest log i e b h =
     let n : length rest ≡ length source = ap length h.rows ∙ length-run source log in
     sym h.rows ∙ columns-identity rest (length source) n (λ k. subst (λ w. get_or rest k 0 < 2 ^ w) n (b k)) (subst (λ j. Columns rest j) e h.columns)
 
 pub eliminated-back : (source rest : List ℕ) (log : List (ℕ × ℕ)) (i : ℕ) → i ≡ length source → ((k : ℕ) → get_or rest k 0 < 2 ^ length rest) → Eliminated source rest log i
-    → run (identity_rows (length source)) (reverse log) ≡ source
+    → added_all (identity_rows (length source)) (reverse log) ≡ source
 eliminated-back source rest log i e b h = run-synth source log h.pairs (eliminated-identity source rest log i e b h)
 
 pub eliminated-times : (source rest : List ℕ) (log : List (ℕ × ℕ)) (i : ℕ) → i ≡ length source → ((k : ℕ) → get_or rest k 0 < 2 ^ length rest) → Eliminated source rest log i
-    → (b : List ℕ) → length b ≡ length source → run b (reverse log) ≡ product source b
+    → (b : List ℕ) → length b ≡ length source → added_all b (reverse log) ≡ matrix_product source b
 eliminated-times source rest log i e b h =
     run-times source (reverse log) (pairs-reverse (length source) log h.pairs) (eliminated-back source rest log i e b h)
 
@@ -262,8 +262,8 @@ eliminated-dependent source rest log i l b h z =
     no_pivot-dependent rest (length rest) i refl l b h.columns z
     (subst (λ (k : List ℕ). Free k) (sym h.rows) (run-free source log h.pairs (independent-Free source t))))
 
-pub inverse-told : (m : List ℕ) (es : List (ℕ × ℕ)) (i b : List ℕ) → All (IsPair (length m)) es → run m es ≡ identity_rows (length m) → i ≡ identity_rows (length m) → b ≡ run i es → IsInverse m b
-inverse-told m es i b a e q h = subst (λ (k : List ℕ). IsInverse m k) (sym (h ∙ ap (λ (k : List ℕ). run k es) q)) (run-inverse m es (All-pairs (length m) es a) e)
+pub inverse-told : (m : List ℕ) (es : List (ℕ × ℕ)) (i b : List ℕ) → All (IsPair (length m)) es → added_all m es ≡ identity_rows (length m) → i ≡ identity_rows (length m) → b ≡ added_all i es → IsInverse m b
+inverse-told m es i b a e q h = subst (λ (k : List ℕ). IsInverse m k) (sym (h ∙ ap (λ (k : List ℕ). added_all k es) q)) (run-inverse m es (All-pairs (length m) es a) e)
 
 pub cleared-length : (old now : List ℕ) (before after : List (ℕ × ℕ)) (i row : ℕ) → Cleared old now before after i row → length now ≡ length old
 cleared-length old now before after i row h = ap length h.rows ∙ length-run old h.more

@@ -10,7 +10,7 @@ use Rattle.std.specs.Prelude.{bit_xor, nat_eq}
 use Rattle.std.proofs.lemmas.Bool.{cases_lt}
 use Rattle.std.proofs.lemmas.List.{length-map}
 use Rattle.gf2_linear.specs.Rows.{combined, is_independent}
-use Rattle.gf2_linear.specs.Matrices.{identity_rows, product, run, IsInverse, IsMatrix}
+use Rattle.gf2_linear.specs.Matrices.{identity_rows, matrix_product, added_all, IsInverse, IsMatrix}
 use Rattle.gf2_linear.specs.Eliminations.{Pairs}
 use Rattle.gf2_linear.proofs.Xor.{xor_again}
 use Rattle.gf2_linear.proofs.Spans.{Span, Free, Span-same}
@@ -53,13 +53,13 @@ combined-twice (x ∷ b) c r =
     taken true = refl
     taken false = combined-zero c
 
-pub product-assoc : (a b c : List ℕ) → product (product a b) c ≡ product a (product b c)
-unfolding product
+pub product-assoc : (a b c : List ℕ) → matrix_product (matrix_product a b) c ≡ matrix_product a (matrix_product b c)
+unfolding matrix_product
 product-assoc [] b c = refl
 product-assoc (r ∷ a) b c = ap (λ k. k ∷ map (combined c) (map (combined b) a)) (combined-twice b c r) ∙ ap (λ k. combined (map (combined c) b) r ∷ k) (product-assoc a b c)
 
-product-identity : (n : ℕ) (a : List ℕ) → ((k : ℕ) → get_or a k 0 < 2 ^ n) → product a (identity_rows n) ≡ a
-unfolding product
+product-identity : (n : ℕ) (a : List ℕ) → ((k : ℕ) → get_or a k 0 < 2 ^ n) → matrix_product a (identity_rows n) ≡ a
+unfolding matrix_product
 product-identity n [] h = refl
 product-identity n (r ∷ a) h =
     ap (λ k. k ∷ map (combined (identity_rows n)) a) (combined-identity n r (h 0)) ∙ ap (λ k. r ∷ k) (product-identity n a (λ k. h (suc k)))
@@ -78,26 +78,26 @@ free-map c (q ∷ qs) f = ((λ s. f.0 (Span-map c qs q s)), free-map c qs f.1)
 
 -- ---- quotients
 pub length-inverse : (m inverse : List ℕ) → IsInverse m inverse → length inverse ≡ length m
-unfolding product
+unfolding matrix_product
 length-inverse m inverse h = sym (length-map inverse (combined m)) ∙ ap length h.right ∙ length-identity (length m)
 
-pub product-quotient : (to from inverse : List ℕ) → IsMatrix to → length to ≡ length from → IsInverse from inverse → product (product to inverse) from ≡ to
+pub product-quotient : (to from inverse : List ℕ) → IsMatrix to → length to ≡ length from → IsInverse from inverse → matrix_product (matrix_product to inverse) from ≡ to
 product-quotient to from inverse m e h =
-    product-assoc to inverse from ∙ ap (product to) (h.right ∙ ap identity_rows (sym e)) ∙ product-identity (length to) to m.below
+    product-assoc to inverse from ∙ ap (matrix_product to) (h.right ∙ ap identity_rows (sym e)) ∙ product-identity (length to) to m.below
 
-pub length-product : (a b : List ℕ) → length (product a b) ≡ length a
-unfolding product
+pub length-product : (a b : List ℕ) → length (matrix_product a b) ≡ length a
+unfolding matrix_product
 length-product a b = length-map a (combined b)
 
-pub quotient-independent : (q from to : List ℕ) → product q from ≡ to → is_independent to ≡ true → is_independent q ≡ true
-unfolding product
+pub quotient-independent : (q from to : List ℕ) → matrix_product q from ≡ to → is_independent to ≡ true → is_independent q ≡ true
+unfolding matrix_product
 quotient-independent q from to e h =
     Free-independent q (free-map from q (subst (λ (k : List ℕ). Free k) (sym e) (independent-Free to h)))
 
-pub run-times : (m : List ℕ) (es : List (ℕ × ℕ)) → Pairs (length m) es → run (identity_rows (length m)) es ≡ m
-    → (b : List ℕ) → length b ≡ length m → run b es ≡ product m b
+pub run-times : (m : List ℕ) (es : List (ℕ × ℕ)) → Pairs (length m) es → added_all (identity_rows (length m)) es ≡ m
+    → (b : List ℕ) → length b ≡ length m → added_all b es ≡ matrix_product m b
 run-times m es p h b e =
     let i : List ℕ = identity_rows (length m) in
-    ap (λ (k : List ℕ). run k es) (sym (ap (λ n. product (identity_rows n) b) (sym e) ∙ identity-product b))
+    ap (λ (k : List ℕ). added_all k es) (sym (ap (λ n. matrix_product (identity_rows n) b) (sym e) ∙ identity-product b))
     ∙ sym (product-run i b es (subst (λ n. Pairs n es) (sym (length-identity (length m))) p))
-    ∙ ap (λ (k : List ℕ). product k b) h
+    ∙ ap (λ (k : List ℕ). matrix_product k b) h

@@ -25,7 +25,7 @@ use Rattle.std.proofs.Math.ListN.{get_or-append}
 use Rattle.std.proofs.Math.Seq.{get_or-append_seam}
 use Rattle.std.proofs.lemmas.Bool.{cases_eq, cases_lt, eq-eqb, ne_eqb}
 use Rattle.gf2_linear.specs.Rows.{combined}
-use Rattle.gf2_linear.specs.Matrices.{added, run, identity_rows, product, IsPair, IsInverse}
+use Rattle.gf2_linear.specs.Matrices.{added, added_all, identity_rows, matrix_product, IsPair, IsInverse}
 use Rattle.gf2_linear.specs.Eliminations.{Pairs, From, unit_bit}
 use Rattle.gf2_linear.proofs.Xor.{xor_again}
 use Rattle.gf2_linear.proofs.Spans.{Span, All_span, Free, Span-same, Span-first, Span-add, All_span-more, All_span-self, All_span-within, Free-append, steinitz}
@@ -65,11 +65,11 @@ added-twice m e p =
     ])
 
 -- ---- additions in order
-pub length-run : (m : List ℕ) (es : List (ℕ × ℕ)) → length (run m es) ≡ length m
+pub length-run : (m : List ℕ) (es : List (ℕ × ℕ)) → length (added_all m es) ≡ length m
 length-run m [] = refl
 length-run m (e ∷ es) = length-run (added m e) es ∙ length-added m e
 
-pub run-append : (m : List ℕ) (es fs : List (ℕ × ℕ)) → run m (es ++ fs) ≡ run (run m es) fs
+pub run-append : (m : List ℕ) (es fs : List (ℕ × ℕ)) → added_all m (es ++ fs) ≡ added_all (added_all m es) fs
 run-append m [] fs = refl
 run-append m (e ∷ es) fs = run-append (added m e) es fs
 
@@ -77,10 +77,10 @@ reverse-first : (e : ℕ × ℕ) (es : List (ℕ × ℕ)) → reverse (e ∷ es)
 reverse-first e es = reverse-append (e ∷ []) es
 
 -- read backwards, additions undo themselves
-pub run-back : (m : List ℕ) (es : List (ℕ × ℕ)) → Pairs (length m) es → run (run m es) (reverse es) ≡ m
+pub run-back : (m : List ℕ) (es : List (ℕ × ℕ)) → Pairs (length m) es → added_all (added_all m es) (reverse es) ≡ m
 run-back m [] p = refl
 run-back m (e ∷ es) p =
-    ap (run (run (added m e) es)) (reverse-first e es) ∙ run-append (run (added m e) es) (reverse es) (e ∷ [])
+    ap (added_all (added_all (added m e) es)) (reverse-first e es) ∙ run-append (added_all (added m e) es) (reverse es) (e ∷ [])
     ∙ ap (λ (k : List ℕ). added k e) (run-back (added m e) es (subst (λ n. Pairs n es) (sym (length-added m e)) p.1))
     ∙ added-twice m e p.0
 
@@ -108,9 +108,9 @@ added-span m e p = All_span-from (added m e) m (λ k l. elim (cases_eq k e.1) [
       (Span-at (added m e) k (subst (λ j. k < j) (sym (length-added m e)) l))
 ])
 
-run-span : (m : List ℕ) (es : List (ℕ × ℕ)) → Pairs (length m) es → All_span (run m es) m
+run-span : (m : List ℕ) (es : List (ℕ × ℕ)) → Pairs (length m) es → All_span (added_all m es) m
 run-span m [] p = All_span-self m
-run-span m (e ∷ es) p = All_span-within (run m (e ∷ es)) (added m e) m (run-span (added m e) es (subst (λ n. Pairs n es) (sym (length-added m e)) p.1)) (added-span m e p.0)
+run-span m (e ∷ es) p = All_span-within (added_all m (e ∷ es)) (added m e) m (run-span (added m e) es (subst (λ n. Pairs n es) (sym (length-added m e)) p.1)) (added-span m e p.0)
 
 all-left : (s : ℕ) (ps ss : List ℕ) → All_span (ps ++ s ∷ ss) ps
 all-left s [] ss = tt
@@ -138,8 +138,8 @@ free-counted ps (s ∷ ss) rs w f l = (
 pub free-count : (ss rs : List ℕ) → All_span ss rs → Free rs → length ss ≤ length rs → Free ss
 free-count ss rs w f l = free-counted [] ss rs w f l
 
-pub run-free : (m : List ℕ) (es : List (ℕ × ℕ)) → Pairs (length m) es → Free m → Free (run m es)
-run-free m es p f = let e : length (run m es) ≡ length m = length-run m es in free-count (run m es) m (run-span m es p) f (omega (arith, e))
+pub run-free : (m : List ℕ) (es : List (ℕ × ℕ)) → Pairs (length m) es → Free m → Free (added_all m es)
+run-free m es p f = let e : length (added_all m es) ≡ length m = length-run m es in free-count (added_all m es) m (run-span m es p) f (omega (arith, e))
 
 pub pairs-append : (n : ℕ) (xs ys : List (ℕ × ℕ)) → Pairs n xs → Pairs n ys → Pairs n (xs ++ ys)
 pairs-append n [] ys a b = b
@@ -149,10 +149,10 @@ pub pairs-reverse : (n : ℕ) (es : List (ℕ × ℕ)) → Pairs n es → Pairs 
 pairs-reverse n [] p = tt
 pairs-reverse n (e ∷ es) p = subst (λ (k : List (ℕ × ℕ)). Pairs n k) (sym (reverse-first e es)) (pairs-append n (reverse es) (e ∷ []) (pairs-reverse n es p.1) (p.0, tt))
 
-pub run-free_back : (m : List ℕ) (es : List (ℕ × ℕ)) → Pairs (length m) es → Free (run m es) → Free m
+pub run-free_back : (m : List ℕ) (es : List (ℕ × ℕ)) → Pairs (length m) es → Free (added_all m es) → Free m
 run-free_back m es p f =
     subst (λ (k : List ℕ). Free k) (run-back m es p)
-    (run-free (run m es) (reverse es) (subst (λ n. Pairs n (reverse es)) (sym (length-run m es)) (pairs-reverse (length m) es p)) f)
+    (run-free (added_all m es) (reverse es) (subst (λ n. Pairs n (reverse es)) (sym (length-run m es)) (pairs-reverse (length m) es p)) f)
 
 -- ---- columns
 pub record Columns (rows : List ℕ) (i : ℕ) : Type 0 where
@@ -179,7 +179,7 @@ columns-added m i e p h c = record {
     with_zero a b j z = let s : bit_at a j < 2 = bit_at-lt a j in
         bit_at_xor a b j ∙ ap (λ n. (bit_at a j + n) % 2) z ∙ small (bit_at a j) s
 
-pub columns-kept : (m : List ℕ) (i : ℕ) (es : List (ℕ × ℕ)) → Pairs (length m) es → From i es → Columns m i → Columns (run m es) i
+pub columns-kept : (m : List ℕ) (i : ℕ) (es : List (ℕ × ℕ)) → Pairs (length m) es → From i es → Columns m i → Columns (added_all m es) i
 columns-kept m i [] p f c = c
 columns-kept m i (e ∷ es) p f c =
     columns-kept (added m e) i es (subst (λ n. Pairs n es) (sym (length-added m e)) p.1) f.1 (columns-added m i e p.0 f.0 c)
@@ -233,8 +233,8 @@ no_pivot-dependent m n i e l b c z f =
     absurd (omega (arith, s, length-highs (suc i) d, length-drop i m, e))
 
 -- ---- products
-pub product-added : (a b : List ℕ) (e : ℕ × ℕ) → IsPair (length a) e → product (added a e) b ≡ added (product a b) e
-unfolding product
+pub product-added : (a b : List ℕ) (e : ℕ × ℕ) → IsPair (length a) e → matrix_product (added a e) b ≡ added (matrix_product a b) e
+unfolding matrix_product
 product-added a b e p =
     ext_get_or 0 (map (combined b) (added a e)) (added (map (combined b) a) e)
     (length-map (added a e) (combined b) ∙ length-added a e ∙ sym (length-added (map (combined b) a) e ∙ length-map a (combined b)))
@@ -253,10 +253,10 @@ product-added a b e p =
       | inr n ↦ ap (combined b) (added-other a e k n) ∙ sym (get_or-map (combined b) a k 0 0 la) ∙ sym (added-other (map (combined b) a) e k n)
     ])
 
-pub product-run : (a b : List ℕ) (es : List (ℕ × ℕ)) → Pairs (length a) es → product (run a es) b ≡ run (product a b) es
+pub product-run : (a b : List ℕ) (es : List (ℕ × ℕ)) → Pairs (length a) es → matrix_product (added_all a es) b ≡ added_all (matrix_product a b) es
 product-run a b [] p = refl
 product-run a b (e ∷ es) p =
-    product-run (added a e) b es (subst (λ n. Pairs n es) (sym (length-added a e)) p.1) ∙ ap (λ (k : List ℕ). run k es) (product-added a b e p.0)
+    product-run (added a e) b es (subst (λ n. Pairs n es) (sym (length-added a e)) p.1) ∙ ap (λ (k : List ℕ). added_all k es) (product-added a b e p.0)
 
 -- the identity names each row alone
 unit-combined : (rows : List ℕ) (k : ℕ) → k < length rows → combined rows (2 ^ k) ≡ get_or rows k 0
@@ -270,8 +270,8 @@ unit-combined (r ∷ rows) (suc k) l =
     ap (λ j. bit_xor (cond (nat_eq j 1) r 0) (combined rows (2 ^ suc k / 2))) low
     ∙ ap (λ j. bit_xor 0 (combined rows j)) high ∙ xor_zero_l (combined rows (2 ^ k)) ∙ unit-combined rows k (omega arith)
 
-pub identity-product : (m : List ℕ) → product (identity_rows (length m)) m ≡ m
-unfolding product
+pub identity-product : (m : List ℕ) → matrix_product (identity_rows (length m)) m ≡ m
+unfolding matrix_product
 identity-product m =
     ext_get_or 0 (map (combined m) (identity_rows (length m))) m (length-map (identity_rows (length m)) (combined m) ∙ length-identity (length m))
     (λ k l.
@@ -280,24 +280,24 @@ identity-product m =
     get_or-map (combined m) (identity_rows (length m)) k 0 0 li ∙ ap (combined m) (get-identity (length m) k lm) ∙ unit-combined m k lm)
 
 -- ---- the inverse and the synthesis
-pub run-synth : (m : List ℕ) (es : List (ℕ × ℕ)) → Pairs (length m) es → run m es ≡ identity_rows (length m) → run (identity_rows (length m)) (reverse es) ≡ m
-run-synth m es p e = ap (λ (k : List ℕ). run k (reverse es)) (sym e) ∙ run-back m es p
+pub run-synth : (m : List ℕ) (es : List (ℕ × ℕ)) → Pairs (length m) es → added_all m es ≡ identity_rows (length m) → added_all (identity_rows (length m)) (reverse es) ≡ m
+run-synth m es p e = ap (λ (k : List ℕ). added_all k (reverse es)) (sym e) ∙ run-back m es p
 
-pub run-inverse : (m : List ℕ) (es : List (ℕ × ℕ)) → Pairs (length m) es → run m es ≡ identity_rows (length m) → IsInverse m (run (identity_rows (length m)) es)
+pub run-inverse : (m : List ℕ) (es : List (ℕ × ℕ)) → Pairs (length m) es → added_all m es ≡ identity_rows (length m) → IsInverse m (added_all (identity_rows (length m)) es)
 run-inverse m es p e =
     let n : ℕ = length m in
     let i : List ℕ = identity_rows n in
-    let b : List ℕ = run i es in
+    let b : List ℕ = added_all i es in
     let ni : length i ≡ n = length-identity n in
     let pi : Pairs (length i) es = subst (λ k. Pairs k es) (sym ni) p in
     let nb : length b ≡ n = length-run i es ∙ ni in
     record {
-      right = product-run i m es pi ∙ ap (λ (k : List ℕ). run k es) (identity-product m) ∙ e;
+      right = product-run i m es pi ∙ ap (λ (k : List ℕ). added_all k es) (identity-product m) ∙ e;
       left =
-          ap (λ (k : List ℕ). product k b) (sym (run-synth m es p e))
+          ap (λ (k : List ℕ). matrix_product k b) (sym (run-synth m es p e))
           ∙ product-run i b (reverse es) (subst (λ k. Pairs k (reverse es)) (sym ni) (pairs-reverse n es p))
-          ∙ ap (λ k. run (product (identity_rows k) b) (reverse es)) (sym nb)
-          ∙ ap (λ (k : List ℕ). run k (reverse es)) (identity-product b)
+          ∙ ap (λ k. added_all (matrix_product (identity_rows k) b) (reverse es)) (sym nb)
+          ∙ ap (λ (k : List ℕ). added_all k (reverse es)) (identity-product b)
           ∙ run-back i es pi;
     }
 
@@ -316,5 +316,5 @@ free-identity (suc n) =
     (λ s. absurd (omega (arith, bounded-span (identity_rows n) n (2 ^ n) (λ k. below-identity n k) s)))
 
 -- what additions turn into the identity is independent
-pub run-independent : (m : List ℕ) (es : List (ℕ × ℕ)) → Pairs (length m) es → run m es ≡ identity_rows (length m) → Free m
+pub run-independent : (m : List ℕ) (es : List (ℕ × ℕ)) → Pairs (length m) es → added_all m es ≡ identity_rows (length m) → Free m
 run-independent m es p e = run-free_back m es p (subst (λ (k : List ℕ). Free k) (sym e) (free-identity (length m)))

@@ -24,7 +24,7 @@ use Rattle.std.proofs.Math.Nat.{pow-le-pow_right, pow-suc}
 use Rattle.std.proofs.Math.Seq.{take-length}
 use Rattle.gf2_linear.specs.Rows.{is_independent, is_sum, rank}
 use Rattle.gf2_linear.specs.Completions.{IsCompletion}
-use Rattle.gf2_linear.specs.Matrices.{IsMatrix, added, run}
+use Rattle.gf2_linear.specs.Matrices.{IsMatrix, added, added_all}
 use Rattle.gf2_linear.specs.Sifts.{IsSifted}
 use Rattle.gf2_linear.specs.Wide.{StandAmong, below, count_of}
 use Rattle.gf2_linear.proofs.Xor.{xor_again}
@@ -347,6 +347,6 @@ below-added w rows e =
     ∙ ap (λ a. bit_xor a (get_or rows e.0 0 % 2 ^ w)) (sym (get-below w rows e.1))
     ∙ ap (λ a. bit_xor (get_or (map (λ r. r % 2 ^ w) rows) e.1 0) a) (sym (get-below w rows e.0)))
 
-pub below-run : (w : ℕ) (rows : List ℕ) (pairs : List (ℕ × ℕ)) → below w (run rows pairs) ≡ run (below w rows) pairs
+pub below-run : (w : ℕ) (rows : List ℕ) (pairs : List (ℕ × ℕ)) → below w (added_all rows pairs) ≡ added_all (below w rows) pairs
 below-run w rows [] = refl
-below-run w rows (e ∷ pairs) = below-run w (added rows e) pairs ∙ ap (λ (q : List ℕ). run q pairs) (below-added w rows e)
+below-run w rows (e ∷ pairs) = below-run w (added rows e) pairs ∙ ap (λ (q : List ℕ). added_all q pairs) (below-added w rows e)

@@ -2,13 +2,13 @@
 --   Pairs n es                 each of the additions is of one row to another, of n
 --   From i es                  each is of a row from i on
 --   IsNoted old new before after i most    the additions noted since, at most so many, all of rows from i on, lead to the new rows
---   IsFirstFrom rows i k       k is the first row from i on that has the wire i
+--   IsPivotRow rows i k        k is the first row from i on that has the wire i
 --   unit_bit k j, HasUnitColumn rows i    row i alone has the wire i
 --   IsPassedOver, IsAdded            one row is left as it is, or gets the row of the column
 --   IsRowStep                  one row after the step that takes a wire out of it
 use Rattle.std.specs.Prelude.{◌≡◌, ◌⊎◌, ℕ, ◌<◌, ◌≤◌, cond, List, [], ◌∷◌, ◌++◌, length, nat_eq, slice_index}
 use Rattle.std.specs.Int.{bit_at}
-use Rattle.gf2_linear.specs.Matrices.{added, run, IsPair}
+use Rattle.gf2_linear.specs.Matrices.{added, added_all, IsPair}
 
 abbrev pub Pairs : ℕ → List (ℕ × ℕ) → Type 0
 Pairs n [] = Unit {0}
@@ -21,12 +21,12 @@ From i (e ∷ es) = (i ≤ e.0) × From i es
 pub record IsNoted (old new : List ℕ) (before after : List (ℕ × ℕ)) (i most : ℕ) : Type 0 where
   pub more : List (ℕ × ℕ)
   pub log : after ≡ before ++ more
-  pub rows : new ≡ run old more
+  pub rows : new ≡ added_all old more
   pub few : length more ≤ most
   pub pairs : Pairs (length old) more
   pub later : From i more
 
-pub record IsFirstFrom (rows : List ℕ) (i k : ℕ) : Type 0 where
+pub record IsPivotRow (rows : List ℕ) (i k : ℕ) : Type 0 where
   pub later : i ≤ k
   pub within : k < length rows
   pub has : bit_at (slice_index rows k) i ≡ 1

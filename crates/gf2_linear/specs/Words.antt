@@ -1,12 +1,12 @@
 -- Working form. A row in 64-bit words, the lowest first.
---   number_of words     the number that the words spell
+--   spelt_number words  the number that the words spell
 --   words_of n v        the n lowest words of a number
 --   AreWords words      as many words as a row has, each of 64 bits
 use Rattle.std.specs.Prelude.{◌≡◌, ℕ, zero, suc, ◌+◌, ◌*◌, ◌/◌, ◌%◌, ◌^◌, ◌<◌, List, [], ◌∷◌, length, slice_index}
 
-abbrev pub number_of : List ℕ → ℕ
-number_of [] = 0
-number_of (w ∷ words) = number_of words * 2 ^ 64 + w
+abbrev pub spelt_number : List ℕ → ℕ
+spelt_number [] = 0
+spelt_number (w ∷ words) = spelt_number words * 2 ^ 64 + w
 
 abbrev pub words_of : ℕ → ℕ → List ℕ
 words_of zero v = []

@@ -3,8 +3,8 @@
 ghost use Rattle.std.specs.Prelude.{◌≡◌, ℕ, ◌+◌, ◌*◌, ◌<◌, ◌≤◌, ◌^◌, ◌++◌, ◌∷◌, [], List, All, IsTrue, IfOk, IfSome, IfNone, true, false, length, reverse, slice_index};
 ghost use Rattle.std.specs.Int.{bit_at};
 ghost use Rattle.gf2_linear.specs.Rows.{is_independent};
-ghost use Rattle.gf2_linear.specs.Matrices.{added, identity_rows, product, run, IsInverse, IsPair};
-ghost use Rattle.gf2_linear.specs.Eliminations.{HasUnitColumn, IsFirstFrom, IsNoted, IsRowStep};
+ghost use Rattle.gf2_linear.specs.Matrices.{added, identity_rows, matrix_product, added_all, IsInverse, IsPair};
+ghost use Rattle.gf2_linear.specs.Eliminations.{HasUnitColumn, IsPivotRow, IsNoted, IsRowStep};
 
 use crate::matrices::Matrix;
 use std::alloc::{AllocError, Global};
@@ -15,9 +15,9 @@ use std::alloc::{AllocError, Global};
 /// This is Gaussian elimination. At each column the row of the same number gets the column, if it hasn't it yet, from the
 /// next row below that has it, and takes it out of the others, from the first to the last.
 pub fn additions(alloc: Global, matrix: &Matrix) -> Result<Option<Vec<(u32, u32)>>, AllocError>
-    ensures ok { IfOk result (λ o. IfSome o (λ l. run matrix.now l.items ≡ identity_rows (length matrix.now))) }
-    ensures back { IfOk result (λ o. IfSome o (λ l. run (identity_rows (length matrix.now)) (reverse l.items) ≡ matrix.now)) }
-    ensures times { IfOk result (λ o. IfSome o (λ l. (b : List ℕ) → length b ≡ length matrix.now → run b (reverse l.items) ≡ product matrix.now b)) }
+    ensures ok { IfOk result (λ o. IfSome o (λ l. added_all matrix.now l.items ≡ identity_rows (length matrix.now))) }
+    ensures back { IfOk result (λ o. IfSome o (λ l. added_all (identity_rows (length matrix.now)) (reverse l.items) ≡ matrix.now)) }
+    ensures times { IfOk result (λ o. IfSome o (λ l. (b : List ℕ) → length b ≡ length matrix.now → added_all b (reverse l.items) ≡ matrix_product matrix.now b)) }
     ensures pairs { IfOk result (λ o. IfSome o (λ l. All (IsPair (length matrix.now)) l.items)) }
     ensures gates_limit { IfOk result (λ o. IfSome o (λ l. length l.items ≤ length matrix.now * length matrix.now)) }
     ensures independent { IfOk result (λ o. IfSome o (λ _. is_independent matrix.now ≡ true)) }
@@ -41,7 +41,7 @@ pub fn additions(alloc: Global, matrix: &Matrix) -> Result<Option<Vec<(u32, u32)
 /// The first row from `column` on that has the column.
 fn pivot_of(matrix: &Matrix, column: u32) -> Option<u32>
     requires { column < length matrix.now }
-    ensures some { IfSome result (λ k. IsFirstFrom matrix.now column k) }
+    ensures some { IfSome result (λ k. IsPivotRow matrix.now column k) }
     ensures none { IfNone result ((k : ℕ) → column ≤ k → k < length matrix.now → bit_at (slice_index matrix.now k) column ≡ 0) }
     ensures below { (k : ℕ) → slice_index matrix.now k < 2 ^ length matrix.now }
 {
@@ -78,7 +78,7 @@ fn raise(
     pivot: u32,
     column: u32,
 ) -> Result<(), AllocError>
-    requires { IsFirstFrom matrix.old column pivot }
+    requires { IsPivotRow matrix.old column pivot }
     ensures noted { IfOk result (λ _. IsNoted matrix.old matrix.new log.old.items log.new.items column 1) }
     ensures has { IfOk result (λ _. bit_at (slice_index matrix.new column) column ≡ 1) }
 {
@@ -150,7 +150,7 @@ pub fn quotient(alloc: Global, to: &Matrix, from: &Matrix) -> Result<Matrix, All
     requires to { IsTrue (is_independent to.now) }
     requires from { IsTrue (is_independent from.now) }
     ensures wires { IfOk result (λ q. length q ≡ length from.now) }
-    ensures product { IfOk result (λ q. product q from.now ≡ to.now) }
+    ensures product { IfOk result (λ q. matrix_product q from.now ≡ to.now) }
     ensures independent { IfOk result (λ q. is_independent q ≡ true) }
 {
     to.facts();
@@ -162,7 +162,7 @@ pub fn quotient(alloc: Global, to: &Matrix, from: &Matrix) -> Result<Matrix, All
 /// A matrix after additions of its rows.
 fn ran(matrix: Matrix, log: &[(u32, u32)]) -> Matrix
     requires { All (IsPair (length matrix)) log.now }
-    ensures { result ≡ run matrix log.now }
+    ensures { result ≡ added_all matrix log.now }
 {
     let mut sum = matrix;
     'additions: for pair in log {

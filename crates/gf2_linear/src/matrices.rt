@@ -1,7 +1,7 @@
 //! Square matrices over the field of two elements.
 
 ghost use Rattle.std.specs.Prelude.{◌≡◌, ℕ, ◌<◌, ◌≤◌, ◌^◌, Contains, IfOk, IfSome, IfNone, All, length, slice_index, slice_set, slice_get, Some};
-ghost use Rattle.gf2_linear.specs.Matrices.{added, identity_rows, product, IsMatrix, IsWireOf};
+ghost use Rattle.gf2_linear.specs.Matrices.{added, identity_rows, matrix_product, IsMatrix, IsWireOf};
 ghost use Rattle.gf2_linear.specs.Rows.{combined};
 
 use crate::rows::Row;
@@ -129,7 +129,7 @@ impl Matrix {
     /// The product: row i is the sum of the rows of `other` that row i of this matrix names.
     pub fn product(&self, alloc: Global, other: &Matrix) -> Result<Matrix, AllocError>
         requires size { length other.now ≡ length self.now }
-        ensures ok { IfOk result (λ m. m ≡ product self.now other.now) }
+        ensures ok { IfOk result (λ m. m ≡ matrix_product self.now other.now) }
     {
         let mut rows = Vec::with_capacity(alloc, self.rows.len())?;
         'rows: for row in &self.rows {

@@ -26,11 +26,11 @@ pub struct Row {
 
 impl Model for Row {
     ghost use Rattle.std.specs.Prelude.{ℕ};
-    ghost use Rattle.gf2_linear.specs.Words.{number_of, AreWords};
+    ghost use Rattle.gf2_linear.specs.Words.{spelt_number, AreWords};
 
     ghost Value = { ℕ };
 
-    ghost view = { λ a. number_of a.words };
+    ghost view = { λ a. spelt_number a.words };
 
     ghost invariant = { λ a. AreWords a.words };
 }

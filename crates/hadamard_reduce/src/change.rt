@@ -1,9 +1,9 @@
 //! The change for each window.
 
 ghost use Rattle.std.specs.Prelude.{◌≡◌};
-ghost use Rattle.rewrite_pass.specs.Edits.{placed, taken};
+ghost use Rattle.rewrite_pass.specs.Edits.{putting, removing};
 ghost use Rattle.rewrite_pass.specs.WindowPlaces.{three_edits};
-ghost use Rattle.hadamard_reduce.specs.Found.{HasFinePhase, change_of, number_of};
+ghost use Rattle.hadamard_reduce.specs.Found.{HasFinePhase, change_of, rule_number};
 
 use crate::window::{Middle, Window};
 use circuit_list::Gate;
@@ -11,14 +11,14 @@ use rewrite_pass::{Change, Edit};
 
 /// Takes a gate away.
 fn taken(place: usize) -> Edit
-    ensures { result ≡ taken place }
+    ensures { result ≡ removing place }
 {
     Edit { place, put: None }
 }
 
 /// Puts a gate in the place of another.
 fn placed(place: usize, gate: Gate) -> Edit
-    ensures { result ≡ placed place gate }
+    ensures { result ≡ putting place gate }
 {
     Edit {
         place,
@@ -60,7 +60,7 @@ fn change_of_three(middle: Middle, q: u32, first: usize, second: usize, third: u
 
 /// The number of a window's rule in the table of traces.
 pub(crate) fn number_of(window: Window) -> u8
-    ensures value { result ≡ number_of window }
+    ensures value { result ≡ rule_number window }
 {
     match window {
         Window::Turned {

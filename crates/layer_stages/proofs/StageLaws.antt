@@ -13,17 +13,17 @@ use Rattle.circuit_list.specs.declared.Gate.{Gate}
 use Rattle.gf2_linear.specs.Rows.{rows_at}
 use Rattle.circuit_layers.specs.Layers.{LayerBody}
 use Rattle.phase_poly.specs.Polys.{AreDihedral, Term, poly_of}
-use Rattle.phase_poly.specs.Resynthesis.{rows_of}
+use Rattle.phase_poly.specs.Resynthesis.{rows_of_terms}
 use Rattle.layer_stages.specs.declared.stage.Stage.{Stage}
-use Rattle.layer_stages.specs.Stages.{odd_rows, IsStage, spares_of, numbered, AreStages, stage_numbers, line_end, stage_line, stage_text, IsSoFar, IsStageText}
+use Rattle.layer_stages.specs.Stages.{odd_rows, IsStage, spare_count, numbered, AreStages, stage_numbers, line_end, stage_line, stage_text, AreStagesSoFar, IsStageText}
 
 -- ---- odd sums
-rows_of-append : (ts us : List Term) → rows_of (ts ++ us) ≡ rows_of ts ++ rows_of us
+rows_of-append : (ts us : List Term) → rows_of_terms (ts ++ us) ≡ rows_of_terms ts ++ rows_of_terms us
 rows_of-append [] us = refl
 rows_of-append (e ∷ ts) us = ap (λ z. e.0 ∷ z) (rows_of-append ts us)
 
 odd_rows-append : (ts us : List Term) → odd_rows (ts ++ us) ≡ odd_rows ts ++ odd_rows us
-odd_rows-append ts us = ap rows_of (filter-append (λ (e : Term). e.1 % 2 == 1) ts us) ∙ rows_of-append (filter (λ (e : Term). e.1 % 2 == 1) ts) (filter (λ (e : Term). e.1 % 2 == 1) us)
+odd_rows-append ts us = ap rows_of_terms (filter-append (λ (e : Term). e.1 % 2 == 1) ts us) ∙ rows_of-append (filter (λ (e : Term). e.1 % 2 == 1) ts) (filter (λ (e : Term). e.1 % 2 == 1) us)
 
 pub odd_rows-more : (ts : List Term) (i : ℕ) (d : Term) (rows next : List ℕ) → i < length ts → rows ≡ odd_rows (take i ts) → next ≡ rows ++ odd_rows (get_or ts i d ∷ []) → next ≡ odd_rows (take (i + 1) ts)
 odd_rows-more ts i d rows next l h n = n ∙ ap (λ z. z ++ odd_rows (get_or ts i d ∷ [])) h ∙ sym (odd_rows-append (take i ts) (get_or ts i d ∷ [])) ∙ ap odd_rows (sym (take_more ts i d l))
@@ -35,9 +35,9 @@ odd_nonzero : (ts : List Term) → AreFilled ts → (k d : ℕ) → k < length (
 odd_nonzero [] h k d l = λ e. absurd (omega arith)
 odd_nonzero (e ∷ ts) h k d l = go (nat_eq (e.1 % 2) 1) k l (odd_nonzero ts (λ i c m. h (suc i) c (omega arith)))
   where
-    go : (b : Bool) (k : ℕ) → k < length (rows_of (cond b (e ∷ filter (λ (e : Term). e.1 % 2 == 1) ts) (filter (λ (e : Term). e.1 % 2 == 1) ts))) →
+    go : (b : Bool) (k : ℕ) → k < length (rows_of_terms (cond b (e ∷ filter (λ (e : Term). e.1 % 2 == 1) ts) (filter (λ (e : Term). e.1 % 2 == 1) ts))) →
         ((k d : ℕ) → k < length (odd_rows ts) → get_or (odd_rows ts) k d ≢ 0) →
-        get_or (rows_of (cond b (e ∷ filter (λ (e : Term). e.1 % 2 == 1) ts) (filter (λ (e : Term). e.1 % 2 == 1) ts))) k d ≢ 0
+        get_or (rows_of_terms (cond b (e ∷ filter (λ (e : Term). e.1 % 2 == 1) ts) (filter (λ (e : Term). e.1 % 2 == 1) ts))) k d ≢ 0
     go true zero l r = h 0 e (omega arith)
     go true (suc k) l r = r k d (omega arith)
     go false k l r = r k d l
@@ -85,10 +85,10 @@ text-append o i (t ∷ ss) s = append_assoc (stage_line o i t) (stage_text o (i 
 pub line-joined : (o : Option ℕ) (i : ℕ) (s : Stage) (text mid last : List ℕ) → mid ≡ text ++ stage_numbers i s → last ≡ mid ++ line_end o → last ≡ text ++ stage_line o i s
 line-joined o i s text mid last e f = f ∙ ap (λ z. z ++ line_end o) e ∙ append_assoc text (stage_numbers i s) (line_end o)
 
-pub so_far_none : (n : ℕ) (o : Option ℕ) (ls : List LayerBody) (l : LayerBody) (text last : List ℕ) (next : ℕ) → length l.gates ≡ 0 → last ≡ text → IsSoFar n o ls text next → IsSoFar n o (ls ++ l ∷ []) last next
+pub so_far_none : (n : ℕ) (o : Option ℕ) (ls : List LayerBody) (l : LayerBody) (text last : List ℕ) (next : ℕ) → length l.gates ≡ 0 → last ≡ text → AreStagesSoFar n o ls text next → AreStagesSoFar n o (ls ++ l ∷ []) last next
 so_far_none n o ls l text last next e t h = record {
   stages = h.stages;
-  each = subst (λ (z : List LayerBody). AreStages n (spares_of o) z h.stages) (sym same) h.each;
+  each = subst (λ (z : List LayerBody). AreStages n (spare_count o) z h.stages) (sym same) h.each;
   spelt = t ∙ h.spelt;
   count = h.count;
 }
@@ -99,11 +99,11 @@ so_far_none n o ls l text last next e t h = record {
     same : numbered (ls ++ l ∷ []) ≡ numbered ls
     same = filter-append (λ (l : LayerBody). not (length l.gates == 0)) ls (l ∷ []) ∙ (λ j. numbered ls ++ cond (not (empty j)) (l ∷ []) []) ∙ append-nil (numbered ls)
 
-pub so_far_line : (n : ℕ) (o : Option ℕ) (ls : List LayerBody) (l : LayerBody) (s : Stage) (text last : List ℕ) (next : ℕ) → length l.gates ≢ 0 → IsStage n (spares_of o) l.gates s → last ≡ text ++ stage_line o next s →
-    IsSoFar n o ls text next → IsSoFar n o (ls ++ l ∷ []) last (next + 1)
+pub so_far_line : (n : ℕ) (o : Option ℕ) (ls : List LayerBody) (l : LayerBody) (s : Stage) (text last : List ℕ) (next : ℕ) → length l.gates ≢ 0 → IsStage n (spare_count o) l.gates s → last ≡ text ++ stage_line o next s →
+    AreStagesSoFar n o ls text next → AreStagesSoFar n o (ls ++ l ∷ []) last (next + 1)
 so_far_line n o ls l s text last next e g t h = record {
   stages = h.stages ++ s ∷ [];
-  each = subst (λ (z : List LayerBody). AreStages n (spares_of o) z (h.stages ++ s ∷ [])) (sym more) (stages-append n (spares_of o) (numbered ls) l h.stages s h.each g);
+  each = subst (λ (z : List LayerBody). AreStages n (spare_count o) z (h.stages ++ s ∷ [])) (sym more) (stages-append n (spare_count o) (numbered ls) l h.stages s h.each g);
   spelt = t ∙ ap (λ z. z ++ stage_line o next s) h.spelt ∙ ap (λ k. stage_text o 1 h.stages ++ stage_line o k s) h.count ∙ text-append o 1 h.stages s;
   count = let c = h.count in let d = length-append h.stages (s ∷ []) in omega (arith, c, d);
 }
@@ -114,11 +114,11 @@ so_far_line n o ls l s text last next e g t h = record {
     more : numbered (ls ++ l ∷ []) ≡ numbered ls ++ l ∷ []
     more = filter-append (λ (l : LayerBody). not (length l.gates == 0)) ls (l ∷ []) ∙ (λ j. numbered ls ++ cond (not (there j)) (l ∷ []) [])
 
-pub so_far_start : (n : ℕ) (o : Option ℕ) (text : List ℕ) (next : ℕ) → text ≡ [] → next ≡ 1 → IsSoFar n o [] text next
+pub so_far_start : (n : ℕ) (o : Option ℕ) (text : List ℕ) (next : ℕ) → text ≡ [] → next ≡ 1 → AreStagesSoFar n o [] text next
 so_far_start n o text next e f = record { stages = []; each = tt; spelt = e; count = f }
 
-pub so_far_next : (n : ℕ) (o : Option ℕ) (layers : List LayerBody) (i : ℕ) (d : LayerBody) (text : List ℕ) (next : ℕ) → i < length layers → IsSoFar n o (take i layers ++ get_or layers i d ∷ []) text next → IsSoFar n o (take (i + 1) layers) text next
-so_far_next n o layers i d text next l h = subst (λ (z : List LayerBody). IsSoFar n o z text next) (sym (take_more layers i d l)) h
+pub so_far_next : (n : ℕ) (o : Option ℕ) (layers : List LayerBody) (i : ℕ) (d : LayerBody) (text : List ℕ) (next : ℕ) → i < length layers → AreStagesSoFar n o (take i layers ++ get_or layers i d ∷ []) text next → AreStagesSoFar n o (take (i + 1) layers) text next
+so_far_next n o layers i d text next l h = subst (λ (z : List LayerBody). AreStagesSoFar n o z text next) (sym (take_more layers i d l)) h
 
-pub so_far_all : (n : ℕ) (o : Option ℕ) (ls all : List LayerBody) (text last : List ℕ) (next : ℕ) → ls ≡ all → last ≡ text → IsSoFar n o ls text next → IsStageText n o all last
+pub so_far_all : (n : ℕ) (o : Option ℕ) (ls all : List LayerBody) (text last : List ℕ) (next : ℕ) → ls ≡ all → last ≡ text → AreStagesSoFar n o ls text next → IsStageText n o all last
 so_far_all n o ls all text last next e t h = subst (λ (z : List LayerBody). IsStageText n o z last) e (record { stages = h.stages; each = h.each; spelt = t ∙ h.spelt })

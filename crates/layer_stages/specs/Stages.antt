@@ -1,6 +1,6 @@
 -- The lines that tell of a circuit's layers, which may have spare wires beside them.
 --   odd_rows ts         the sums with an odd coefficient
---   spares_of o         how many spare wires there are; none where no number is given
+--   spare_count o       how many spare wires there are; none where no number is given
 --   IsStage n m gs s    the numbers of a layer with the gates gs on n wires and m spare ones: its gates, its odd sums, the least
 --                       number of blocks of these, each with at most m sums more than its rank (without spares: independent),
 --                       and the size and the rank of a choice that shows that no fewer can be; with one block the choice is
@@ -10,7 +10,7 @@
 --   stage_numbers i s, line_end o   the line of layer i up to its end; its end, with the number of spare wires where one is given
 --   stage_line o i s, stage_text o i ss   the line of layer i; those of all, the first being layer i
 --   IsStageText n o ls text       the lines of the layers
---   IsSoFar n o ls text next      the same, where the next line has the number `next`
+--   AreStagesSoFar n o ls text next  the same, where the next line has the number `next`
 use Rattle.std.specs.Prelude.{◌≡◌, ℕ, ◌+◌, ◌%◌, ◌≤◌, ◌==◌, not, List, [], ◌∷◌, ◌++◌, Option, None, Some, codes, filter, length}
 use Rattle.std.specs.Fmt.{decimal}
 use Rattle.std.specs.List.{range_with_len}
@@ -19,15 +19,15 @@ use Rattle.gf2_linear.specs.Rows.{rank as row_rank, rows_at}
 use Rattle.matroid_partition.specs.Spares.{IsSparePartition, IsSpareWitness}
 use Rattle.circuit_layers.specs.Layers.{LayerBody}
 use Rattle.phase_poly.specs.Polys.{Term, poly_of}
-use Rattle.phase_poly.specs.Resynthesis.{rows_of}
+use Rattle.phase_poly.specs.Resynthesis.{rows_of_terms}
 use Rattle.layer_stages.specs.declared.stage.Stage.{Stage}
 
 abbrev pub odd_rows : List Term → List ℕ
-odd_rows ts = rows_of (filter (λ e. e.1 % 2 == 1) ts)
+odd_rows ts = rows_of_terms (filter (λ e. e.1 % 2 == 1) ts)
 
-abbrev pub spares_of : Option ℕ → ℕ
-spares_of None = 0
-spares_of (Some m) = m
+abbrev pub spare_count : Option ℕ → ℕ
+spare_count None = 0
+spare_count (Some m) = m
 
 pub record IsStage (n m : ℕ) (gs : List Gate) (s : Stage) : Type 0 where
   pub parts : List (List ℕ)
@@ -68,11 +68,11 @@ stage_text o i (s ∷ ss) = stage_line o i s ++ stage_text o (i + 1) ss
 
 pub record IsStageText (n : ℕ) (o : Option ℕ) (ls : List LayerBody) (text : List ℕ) : Type 0 where
   pub stages : List Stage
-  pub each : AreStages n (spares_of o) (numbered ls) stages
+  pub each : AreStages n (spare_count o) (numbered ls) stages
   pub spelt : text ≡ stage_text o 1 stages
 
-pub record IsSoFar (n : ℕ) (o : Option ℕ) (ls : List LayerBody) (text : List ℕ) (next : ℕ) : Type 0 where
+pub record AreStagesSoFar (n : ℕ) (o : Option ℕ) (ls : List LayerBody) (text : List ℕ) (next : ℕ) : Type 0 where
   pub stages : List Stage
-  pub each : AreStages n (spares_of o) (numbered ls) stages
+  pub each : AreStages n (spare_count o) (numbered ls) stages
   pub spelt : text ≡ stage_text o 1 stages
   pub count : next ≡ 1 + length stages

@@ -4,7 +4,7 @@ ghost use Rattle.std.specs.Prelude.{◌≡◌, ◌+◌, ◌≤◌, ◌<◌, ◌+
 ghost use Rattle.circuit_list.specs.Gates.{most_wires};
 ghost use Rattle.circuit_layers.specs.Layers.{LayerBody, layers_of};
 ghost use Rattle.phase_poly.specs.Polys.{AreDihedral};
-ghost use Rattle.layer_stages.specs.Stages.{IsSoFar, IsStageText, line_end, stage_line, stage_numbers};
+ghost use Rattle.layer_stages.specs.Stages.{AreStagesSoFar, IsStageText, line_end, stage_line, stage_numbers};
 
 use crate::stage::{Stage, stage_of};
 use circuit_list::Circuit;
@@ -46,8 +46,8 @@ fn push_layer(
     requires wires_limit { wires ≤ most_wires }
     requires dihedral { AreDihedral wires layer.now.gates }
     requires room { number < 2 ^ 63 }
-    ensures lines { IfOk result (λ next. (ls : List LayerBody) → IsSoFar wires spares ls (string_bytes text.old) number →
-        IsSoFar wires spares (ls ++ layer.now ∷ []) (string_bytes text.new) next) }
+    ensures lines { IfOk result (λ next. (ls : List LayerBody) → AreStagesSoFar wires spares ls (string_bytes text.old) number →
+        AreStagesSoFar wires spares (ls ++ layer.now ∷ []) (string_bytes text.new) next) }
     ensures next { IfOk result (λ next. next ≤ number + 1) }
 {
     if layer.gates().is_empty() {

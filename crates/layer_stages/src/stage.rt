@@ -7,7 +7,7 @@ ghost use Rattle.gf2_linear.specs.Rows.{rows_at};
 ghost use Rattle.matroid_partition.specs.Partitions.{blocks_of};
 ghost use Rattle.matroid_partition.specs.Spares.{IsSparePartition, IsSpareWitness};
 ghost use Rattle.phase_poly.specs.Polys.{AreDihedral};
-ghost use Rattle.layer_stages.specs.Stages.{IsStage, odd_rows, spares_of};
+ghost use Rattle.layer_stages.specs.Stages.{IsStage, odd_rows, spare_count};
 
 use circuit_list::Gate;
 use gf2_linear::{Row, rank};
@@ -35,7 +35,7 @@ pub(crate) fn stage_of(
 ) -> Result<Stage, AllocError>
     requires wires_limit { wires ≤ most_wires }
     requires dihedral { AreDihedral wires gates.now }
-    ensures ok { IfOk result (λ s. IsStage wires (spares_of spares) gates.now s) }
+    ensures ok { IfOk result (λ s. IsStage wires (spare_count spares) gates.now s) }
 {
     filled_terms();
     let sum = poly(alloc, wires, gates)?;
@@ -55,9 +55,9 @@ pub(crate) fn stage_of(
 /// As few blocks as there can be of rows that aren't empty, with so many spares, and a witness.
 fn least_parts(alloc: Global, spares: Option<u32>, rows: &[Row]) -> Result<Parts, AllocError>
     requires nonzero { All (λ r. r ≡ 0 → ⊥) rows.now }
-    ensures partition { IfOk result (λ p. IsSparePartition rows.now (spares_of spares) (blocks_of p)) }
-    ensures witness { IfOk result (λ p. IsSpareWitness rows.now (spares_of spares) (blocks_of p) p.witness.items) }
-    ensures least { IfOk result (λ p. (other : List (List ℕ)) → IsSparePartition rows.now (spares_of spares) other →
+    ensures partition { IfOk result (λ p. IsSparePartition rows.now (spare_count spares) (blocks_of p)) }
+    ensures witness { IfOk result (λ p. IsSpareWitness rows.now (spare_count spares) (blocks_of p) p.witness.items) }
+    ensures least { IfOk result (λ p. (other : List (List ℕ)) → IsSparePartition rows.now (spare_count spares) other →
         vec_len p.blocks ≤ length other) }
     ensures one { IfOk result (λ p. vec_len p.blocks ≡ 1 → p.witness.items ≡ range_with_len 0 (length rows.now)) }
 {

@@ -11,13 +11,13 @@ use Rattle.angle_fraction.specs.Angles.{angle, fitted}
 use Rattle.angle_fraction.specs.declared.Angle.{Angle}
 use Rattle.angle_fraction.specs.declared.AngleFault.TheVariants.{Range}
 use Rattle.gate_library.specs.Gates.{Formula}
-use Rattle.linear_forms.specs.Linear.{AreOver, AreSoFar, AreFormTotals, IsForm, IsOneMore, IsOver, LowestLaws, param_at, pis_at, pis_sum, plain_at, plain_sum, reach, total, whole}
+use Rattle.linear_forms.specs.Linear.{AreOver, AreSoFar, AreFormTotals, IsForm, IsOneMore, IsOver, LowestLaws, param_at, pis_at, pis_sum, plain_at, plain_sum, reach, weighted_total, numerator_over}
 use Rattle.linear_forms.specs.Values.{value}
 use Rattle.linear_forms.specs.declared.form.Form.{Form}
 use Rattle.linear_forms.specs.declared.form.Totals.{Totals}
 use Rattle.linear_forms.proofs.PartLaws.{whole_is}
 
-part_over : (d b : ℕ) (x : Fraction) (n : ℤ) → IsLowest x → n *ℤ pos x.den ≡ x.num *ℤ pos d → unsigned_abs n ≤ b → IsOver d b x (whole d x)
+part_over : (d b : ℕ) (x : Fraction) (n : ℤ) → IsLowest x → n *ℤ pos x.den ≡ x.num *ℤ pos d → unsigned_abs n ≤ b → IsOver d b x (numerator_over d x)
 part_over d b x n low e size =
     subst (λ (m : ℤ). IsOver d b x m) (whole_is n (x.num *ℤ pos d) x.den e low.positive) (record { lowest = low; same = sym e; size = size })
 
@@ -35,13 +35,13 @@ one_more d c x y a t u low low' e f plain pis first second most = record {
 over_weaker : (d b c : ℕ) (x : Fraction) (n : ℤ) → b ≤ c → IsOver d b x n → IsOver d c x n
 over_weaker d b c x n l h = record { lowest = h.lowest; same = h.same; size = let s = h.size in omega (arith, s, l) }
 
-total-drop : (xs : ℕ → ℤ) (i j : ℕ) (cs : List ℤ) → i < length cs → total xs j (drop i cs) ≡ get_or cs i (pos 0) *ℤ xs j +ℤ total xs (j + 1) (drop (i + 1) cs)
+total-drop : (xs : ℕ → ℤ) (i j : ℕ) (cs : List ℤ) → i < length cs → weighted_total xs j (drop i cs) ≡ get_or cs i (pos 0) *ℤ xs j +ℤ weighted_total xs (j + 1) (drop (i + 1) cs)
 total-drop xs i j [] h = absurd (omega (arith, h))
 total-drop xs zero j (c ∷ cs) h = refl
 total-drop xs (suc i) j (c ∷ cs) h =
     let less : i < length cs = omega (arith, h) in
     let next : suc (i + 1) ≡ suc i + 1 = omega arith in
-    total-drop xs i j cs less ∙ ap (λ n. get_or cs i (pos 0) *ℤ xs j +ℤ total xs (j + 1) (drop n (c ∷ cs))) next
+    total-drop xs i j cs less ∙ ap (λ n. get_or cs i (pos 0) *ℤ xs j +ℤ weighted_total xs (j + 1) (drop n (c ∷ cs))) next
 
 moved : (p t u c x r : ℤ) → p ≡ t +ℤ r → u ≡ t +ℤ c → r ≡ c +ℤ x → p ≡ u +ℤ x
 moved p t u c x r e f g = omega (arith, ints, e, f, g)
@@ -49,8 +49,8 @@ moved p t u c x r e f g = omega (arith, ints, e, f, g)
 pub so_far-init : (g : Form) (d : ℕ) (params : List Angle) (t : Totals) → t.plain ≡ g.sums.plain *ℤ pos d → t.pis ≡ g.sums.pis *ℤ pos d → AreSoFar g d params 0 t
 so_far-init g d params t e f = record {
   over = record { plain = λ i h. absurd (omega (arith, h)); pis = λ i h. absurd (omega (arith, h)) };
-  plain = ap (λ z. z +ℤ total (plain_at d params) 0 g.sums.factors.items) (sym e);
-  pis = ap (λ z. z +ℤ total (pis_at d params) 0 g.sums.factors.items) (sym f);
+  plain = ap (λ z. z +ℤ weighted_total (plain_at d params) 0 g.sums.factors.items) (sym e);
+  pis = ap (λ z. z +ℤ weighted_total (pis_at d params) 0 g.sums.factors.items) (sym f);
 }
 
 below_more : (j i : ℕ) → j < i + 1 → (j < i) ⊎ (j ≡ i)
@@ -74,14 +74,14 @@ so_far-more g d params i c t u less is one h = record {
     ];
   };
   plain =
-      moved (plain_sum g.sums d (plain_at d params)) t.plain u.plain (c *ℤ plain_at d params i) (total (plain_at d params) (i + 1) (drop (i + 1) g.sums.factors.items)) (total (plain_at d params) i (drop i g.sums.factors.items)) h.plain one.plain
-      (total-drop (plain_at d params) i i g.sums.factors.items less ∙ ap (λ z. z *ℤ plain_at d params i +ℤ total (plain_at d params) (i + 1) (drop (i + 1) g.sums.factors.items)) (sym is));
+      moved (plain_sum g.sums d (plain_at d params)) t.plain u.plain (c *ℤ plain_at d params i) (weighted_total (plain_at d params) (i + 1) (drop (i + 1) g.sums.factors.items)) (weighted_total (plain_at d params) i (drop i g.sums.factors.items)) h.plain one.plain
+      (total-drop (plain_at d params) i i g.sums.factors.items less ∙ ap (λ z. z *ℤ plain_at d params i +ℤ weighted_total (plain_at d params) (i + 1) (drop (i + 1) g.sums.factors.items)) (sym is));
   pis =
-      moved (pis_sum g.sums d (pis_at d params)) t.pis u.pis (c *ℤ pis_at d params i) (total (pis_at d params) (i + 1) (drop (i + 1) g.sums.factors.items)) (total (pis_at d params) i (drop i g.sums.factors.items)) h.pis one.pis
-      (total-drop (pis_at d params) i i g.sums.factors.items less ∙ ap (λ z. z *ℤ pis_at d params i +ℤ total (pis_at d params) (i + 1) (drop (i + 1) g.sums.factors.items)) (sym is));
+      moved (pis_sum g.sums d (pis_at d params)) t.pis u.pis (c *ℤ pis_at d params i) (weighted_total (pis_at d params) (i + 1) (drop (i + 1) g.sums.factors.items)) (weighted_total (pis_at d params) i (drop i g.sums.factors.items)) h.pis one.pis
+      (total-drop (pis_at d params) i i g.sums.factors.items less ∙ ap (λ z. z *ℤ pis_at d params i +ℤ weighted_total (pis_at d params) (i + 1) (drop (i + 1) g.sums.factors.items)) (sym is));
 }
 
-total-all : (xs : ℕ → ℤ) (i j : ℕ) (cs : List ℤ) → length cs ≤ i → total xs j (drop i cs) ≡ pos 0
+total-all : (xs : ℕ → ℤ) (i j : ℕ) (cs : List ℤ) → length cs ≤ i → weighted_total xs j (drop i cs) ≡ pos 0
 total-all xs zero j [] h = refl
 total-all xs (suc i) j [] h = refl
 total-all xs zero j (c ∷ cs) h = absurd (omega (arith, h))

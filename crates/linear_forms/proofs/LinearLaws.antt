@@ -11,7 +11,7 @@ use Rattle.std.proofs.lemmas.Int.{ints, unsigned_abs-mul}
 use Rattle.std.proofs.Math.IntN.{*ℤ_comm, +ℤ_assoc, neg_ℤ-neg_ℤ}
 use Rattle.std.proofs.lemmas.List.{length-set}
 use Rattle.std.proofs.Math.Nat.{mul-pos, mul-le-mul_right}
-use Rattle.angle_fraction.specs.Fraction.{Fraction, IsLowest, common_factor, difference, fraction, greatest_common, inverse_of, lowest, most_part, nought, opposite, product, quotient, sum, unit}
+use Rattle.angle_fraction.specs.Fraction.{Fraction, IsLowest, common_factor, difference, fraction, greatest_common, inverse_of, lowest, most_part, zero_fraction, opposite, product, quotient, sum, one_fraction}
 use Rattle.angle_fraction.specs.Angles.{angle, both, difference_of, fitted, is_nought, is_plain, opposite_of, product_of, quotient_of, sum_of}
 use Rattle.angle_fraction.specs.declared.Angle.{Angle}
 use Rattle.angle_fraction.specs.declared.AngleFault.{AngleFault}
@@ -19,7 +19,7 @@ use Rattle.angle_fraction.specs.declared.AngleFault.TheVariants.{ZeroDivisor}
 use Rattle.angle_fraction.specs.declared.signs.Binary.{Binary}
 use Rattle.angle_fraction.specs.declared.signs.Binary.TheVariants.{Add, Sub, Mul, Div}
 use Rattle.gate_library.specs.Gates.{Formula, number, pi, param, negated, binary}
-use Rattle.linear_forms.specs.Linear.{AreOver, IsConstant, IsForm, IsGathered, IsNoted, IsNothingYet, IsOver, IsScaled, LowestLaws, param_at, pis_at, pis_sum, plain_at, plain_sum, reach, total}
+use Rattle.linear_forms.specs.Linear.{AreOver, IsConstant, IsForm, IsGathered, AddsDenominator, IsNothingYet, IsOver, IsScaled, LowestLaws, param_at, pis_at, pis_sum, plain_at, plain_sum, reach, weighted_total}
 use Rattle.linear_forms.specs.Values.{and_next, operation, value}
 use Rattle.linear_forms.specs.declared.form.Form.{Form}
 use Rattle.linear_forms.specs.declared.form.Sums.{Sums}
@@ -114,7 +114,7 @@ gathered_number x h s n p q low e plain pis factors fixed times most step = reco
   times = omega (arith, times);
   most = most;
   has = λ laws d m params xs ys some over small far. record {
-    angle = angle x nought;
+    angle = angle x zero_fraction;
     plain = n *ℤ pos d;
     pis = pos 0;
     room = unsigned_abs n * d;
@@ -125,8 +125,8 @@ gathered_number x h s n p q low e plain pis factors fixed times most step = reco
         let zero_times : q.times ≡ p.times + 0 = omega (arith, times) in
         let all = reach_split p q d m (unsigned_abs n) 0 fixed zero_times in
         omega (arith, all);
-    plain_is = sum_same p.plain q.plain (total xs 0 p.factors.items) (total xs 0 q.factors.items) (s *ℤ n) d plain (ap (total xs 0) factors) ∙ ap (λ z. plain_sum p d xs +ℤ z) (times_moved s n (pos d));
-    pis_is = sum_kept p.pis q.pis (total ys 0 p.factors.items) (total ys 0 q.factors.items) s d pis (ap (total ys 0) factors);
+    plain_is = sum_same p.plain q.plain (weighted_total xs 0 p.factors.items) (weighted_total xs 0 q.factors.items) (s *ℤ n) d plain (ap (weighted_total xs 0) factors) ∙ ap (λ z. plain_sum p d xs +ℤ z) (times_moved s n (pos d));
+    pis_is = sum_kept p.pis q.pis (weighted_total ys 0 p.factors.items) (weighted_total ys 0 q.factors.items) s d pis (ap (weighted_total ys 0) factors);
   };
 }
   where
@@ -136,11 +136,11 @@ gathered_number x h s n p q low e plain pis factors fixed times most step = reco
         let last : (n *ℤ pos xd) *ℤ pos d ≡ (n *ℤ pos d) *ℤ pos xd = mul_swap n (pos xd) (pos d) in
         first ∙ ap (λ z. z *ℤ pos d) (sym e) ∙ last
 
-unit-factor : common_factor unit ≡ 1
+unit-factor : common_factor one_fraction ≡ 1
 unfolding common_factor greatest_common
 unit-factor = refl
 
-unit_lowest : IsLowest unit
+unit_lowest : IsLowest one_fraction
 unit_lowest = record { positive = lit< tt; coprime = unit-factor }
 
 pub gathered_pi : (h : ℕ) (s n : ℤ) (p q : Sums) → n ≡ pos h → q.plain ≡ p.plain → q.pis ≡ p.pis +ℤ s *ℤ n → q.factors.items ≡ p.factors.items →
@@ -152,25 +152,25 @@ gathered_pi h s n p q e plain pis factors fixed times most step = record {
   times = omega (arith, times);
   most = most;
   has = λ laws d m params xs ys some over small far. record {
-    angle = angle nought unit;
+    angle = angle zero_fraction one_fraction;
     plain = pos 0;
     pis = n *ℤ pos d;
     room = h * d;
     is = refl;
     plain_over = nought_is (h * d) (h * d);
-    pis_over = subst (λ z. IsOver (h * d) (h * d) unit (z *ℤ pos d)) (sym e) (record { lowest = unit_lowest; same = omega (arith, ints); size = omega arith });
+    pis_over = subst (λ z. IsOver (h * d) (h * d) one_fraction (z *ℤ pos d)) (sym e) (record { lowest = unit_lowest; same = omega (arith, ints); size = omega arith });
     within =
         let zero_times : q.times ≡ p.times + 0 = omega (arith, times) in
         let all = reach_split p q d m h 0 fixed zero_times in
         omega (arith, all);
-    plain_is = sum_kept p.plain q.plain (total xs 0 p.factors.items) (total xs 0 q.factors.items) s d plain (ap (total xs 0) factors);
-    pis_is = sum_same p.pis q.pis (total ys 0 p.factors.items) (total ys 0 q.factors.items) (s *ℤ n) d pis (ap (total ys 0) factors) ∙ ap (λ z. pis_sum p d ys +ℤ z) (times_moved s n (pos d));
+    plain_is = sum_kept p.plain q.plain (weighted_total xs 0 p.factors.items) (weighted_total xs 0 q.factors.items) s d plain (ap (weighted_total xs 0) factors);
+    pis_is = sum_same p.pis q.pis (weighted_total ys 0 p.factors.items) (weighted_total ys 0 q.factors.items) (s *ℤ n) d pis (ap (weighted_total ys 0) factors) ∙ ap (λ z. pis_sum p d ys +ℤ z) (times_moved s n (pos d));
   };
 }
 
-total-set : (xs : ℕ → ℤ) (j i k : ℕ) (cs : List ℤ) (c v : ℤ) → k ≡ j + i → i < length cs → v ≡ get_or cs i (pos 0) +ℤ c → total xs j (set cs i v) ≡ total xs j cs +ℤ c *ℤ xs k
+total-set : (xs : ℕ → ℤ) (j i k : ℕ) (cs : List ℤ) (c v : ℤ) → k ≡ j + i → i < length cs → v ≡ get_or cs i (pos 0) +ℤ c → weighted_total xs j (set cs i v) ≡ weighted_total xs j cs +ℤ c *ℤ xs k
 total-set xs j i k [] c v e h f = absurd (omega (arith, h))
-total-set xs j zero k (a ∷ cs) c v e h f = step a v c (xs j) (xs k) (total xs (j + 1) cs) f (ap xs (let g : k ≡ j = omega (arith, e) in g))
+total-set xs j zero k (a ∷ cs) c v e h f = step a v c (xs j) (xs k) (weighted_total xs (j + 1) cs) f (ap xs (let g : k ≡ j = omega (arith, e) in g))
   where
     step : (a v c x y t : ℤ) → v ≡ a +ℤ c → y ≡ x → v *ℤ x +ℤ t ≡ (a *ℤ x +ℤ t) +ℤ c *ℤ y
     step a v c x y t f g =
@@ -179,7 +179,7 @@ total-set xs j zero k (a ∷ cs) c v e h f = step a v c (xs j) (xs k) (total xs 
 total-set xs j (suc i) k (a ∷ cs) c v e h f =
     let less : i < length cs = omega (arith, h) in
     let place : k ≡ (j + 1) + i = omega (arith, e) in
-    ap (λ z. a *ℤ xs j +ℤ z) (total-set xs (j + 1) i k cs c v place less f) ∙ step (a *ℤ xs j) (total xs (j + 1) cs) (c *ℤ xs k)
+    ap (λ z. a *ℤ xs j +ℤ z) (total-set xs (j + 1) i k cs c v place less f) ∙ step (a *ℤ xs j) (weighted_total xs (j + 1) cs) (c *ℤ xs k)
   where
     step : (a t c : ℤ) → a +ℤ (t +ℤ c) ≡ (a +ℤ t) +ℤ c
     step a t c = omega (arith, ints)
@@ -229,10 +229,10 @@ gathered_param i h s n v p q e there plain pis factors is fixed times most step 
                 let zero_fixed : q.fixed ≡ p.fixed + 0 = omega (arith, fixed) in
                 let all = reach_split p q d m 0 h zero_fixed times in
                 omega (arith, all);
-            plain_is = sum_more p.plain q.plain (total xs 0 p.factors.items) (total xs 0 q.factors.items) s n (xs i) d h e plain
-                (ap (total xs 0) factors ∙ total-set xs 0 i i p.factors.items (s *ℤ n) v (omega arith) there is);
-            pis_is = sum_more p.pis q.pis (total ys 0 p.factors.items) (total ys 0 q.factors.items) s n (ys i) d h e pis
-                (ap (total ys 0) factors ∙ total-set ys 0 i i p.factors.items (s *ℤ n) v (omega arith) there is);
+            plain_is = sum_more p.plain q.plain (weighted_total xs 0 p.factors.items) (weighted_total xs 0 q.factors.items) s n (xs i) d h e plain
+                (ap (weighted_total xs 0) factors ∙ total-set xs 0 i i p.factors.items (s *ℤ n) v (omega arith) there is);
+            pis_is = sum_more p.pis q.pis (weighted_total ys 0 p.factors.items) (weighted_total ys 0 q.factors.items) s n (ys i) d h e pis
+                (ap (weighted_total ys 0) factors ∙ total-set ys 0 i i p.factors.items (s *ℤ n) v (omega arith) there is);
           };
     }
 
@@ -373,13 +373,13 @@ gathered_difference f g h s t p r q first second e above =
     }
 
 -- ---- products and quotients
-noted_plain : (h d : ℕ) (xs : ℕ → ℤ) (p r : Sums) → IsNoted h p r → plain_sum r d xs ≡ plain_sum p d xs
-noted_plain h d xs p r n = λ i. n.plain i *ℤ pos d +ℤ total xs 0 (n.factors i)
+noted_plain : (h d : ℕ) (xs : ℕ → ℤ) (p r : Sums) → AddsDenominator h p r → plain_sum r d xs ≡ plain_sum p d xs
+noted_plain h d xs p r n = λ i. n.plain i *ℤ pos d +ℤ weighted_total xs 0 (n.factors i)
 
-noted_pis : (h d : ℕ) (ys : ℕ → ℤ) (p r : Sums) → IsNoted h p r → pis_sum r d ys ≡ pis_sum p d ys
-noted_pis h d ys p r n = λ i. n.pis i *ℤ pos d +ℤ total ys 0 (n.factors i)
+noted_pis : (h d : ℕ) (ys : ℕ → ℤ) (p r : Sums) → AddsDenominator h p r → pis_sum r d ys ≡ pis_sum p d ys
+noted_pis h d ys p r n = λ i. n.pis i *ℤ pos d +ℤ weighted_total ys 0 (n.factors i)
 
-noted_reach : (h d m : ℕ) (p r : Sums) → IsNoted h p r → reach r d m ≡ reach p d m
+noted_reach : (h d m : ℕ) (p r : Sums) → AddsDenominator h p r → reach r d m ≡ reach p d m
 noted_reach h d m p r n = λ i. n.fixed i * d + n.times i * m
 
 scaled_sum : (a b c s t u n : ℤ) → t ≡ s *ℤ u → b ≡ a → c ≡ b +ℤ t *ℤ n → c ≡ a +ℤ s *ℤ (n *ℤ u)
@@ -406,7 +406,7 @@ record IsTurned (f : Formula) (c : Fraction) (g : Formula) : Type 0 where
   by : LowestLaws → (e k b : ℕ) (params : List Angle) (a : Angle) (n m t : ℤ) → 0 < e → e ≤ most_part → b ≤ most_part → t *ℤ pos (k * c.den) ≡ c.num *ℤ pos e → unsigned_abs t ≤ 1 →
       value params f ≡ Ok a → IsOver k b a.plain n → IsOver k b a.pis m → HasTurned e b params g (n *ℤ t) (m *ℤ t)
 
-gathered_turned : (f g : Formula) (c : Fraction) (h k : ℕ) (s t : ℤ) (p r q : Sums) → IsTurned f c g → IsScaled c h k s t → IsNoted h p r → IsGathered f k t r q → 0 < h → IsGathered g h s p q
+gathered_turned : (f g : Formula) (c : Fraction) (h k : ℕ) (s t : ℤ) (p r q : Sums) → IsTurned f c g → IsScaled c h k s t → AddsDenominator h p r → IsGathered f k t r q → 0 < h → IsGathered g h s p q
 gathered_turned f g c h k s t p r q turned scale noted inner above =
     let step : h ≤ q.most = let a = noted.step in let b = inner.most in omega (arith, a, b) in
     record {
@@ -436,7 +436,7 @@ gathered_turned f g c h k s t p r q turned scale noted inner above =
           };
     }
 
-product_right : (a : Angle) (c x y : Fraction) → fitted (product a.plain c) ≡ Ok x → fitted (product a.pis c) ≡ Ok y → product_of a (angle c nought) ≡ Ok (angle x y)
+product_right : (a : Angle) (c x y : Fraction) → fitted (product a.plain c) ≡ Ok x → fitted (product a.pis c) ≡ Ok y → product_of a (angle c zero_fraction) ≡ Ok (angle x y)
 unfolding product_of
 product_right a c x y e f = λ i. both (e i) (f i)
 
@@ -448,22 +448,22 @@ turned_right f g c constant = record {
       let y = product_over laws e k b a.pis c m t some low most constant.lowest.positive same small pis in
       record {
         angle = angle x.part y.part;
-        is = both_sides f g params a (angle c nought) Mul _ is (constant.is params) (product_right a c x.part y.part x.is y.is);
+        is = both_sides f g params a (angle c zero_fraction) Mul _ is (constant.is params) (product_right a c x.part y.part x.is y.is);
         plain = x.over;
         pis = y.over;
       };
 }
 
-product_left : (a : Angle) (c x y : Fraction) → is_plain a ≡ false → fitted (product c a.plain) ≡ Ok x → fitted (product c a.pis) ≡ Ok y → product_of (angle c nought) a ≡ Ok (angle x y)
+product_left : (a : Angle) (c x y : Fraction) → is_plain a ≡ false → fitted (product c a.plain) ≡ Ok x → fitted (product c a.pis) ≡ Ok y → product_of (angle c zero_fraction) a ≡ Ok (angle x y)
 unfolding product_of
 product_left a c x y w e f =
-    ap (λ (b : Bool). if b then both (fitted (product c a.plain)) (fitted (product nought a.plain)) else both (fitted (product c a.plain)) (fitted (product c a.pis))) w
+    ap (λ (b : Bool). if b then both (fitted (product c a.plain)) (fitted (product zero_fraction a.plain)) else both (fitted (product c a.plain)) (fitted (product c a.pis))) w
     ∙ (λ i. both (e i) (f i))
 
-product_left_plain : (a : Angle) (c x y : Fraction) → is_plain a ≡ true → fitted (product c a.plain) ≡ Ok x → fitted (product nought a.plain) ≡ Ok y → product_of (angle c nought) a ≡ Ok (angle x y)
+product_left_plain : (a : Angle) (c x y : Fraction) → is_plain a ≡ true → fitted (product c a.plain) ≡ Ok x → fitted (product zero_fraction a.plain) ≡ Ok y → product_of (angle c zero_fraction) a ≡ Ok (angle x y)
 unfolding product_of
 product_left_plain a c x y w e f =
-    ap (λ (b : Bool). if b then both (fitted (product c a.plain)) (fitted (product nought a.plain)) else both (fitted (product c a.plain)) (fitted (product c a.pis))) w
+    ap (λ (b : Bool). if b then both (fitted (product c a.plain)) (fitted (product zero_fraction a.plain)) else both (fitted (product c a.plain)) (fitted (product c a.pis))) w
     ∙ (λ i. both (e i) (f i))
 
 no_times : (m t : ℤ) → m ≡ pos 0 → m *ℤ t ≡ pos 0
@@ -483,7 +483,7 @@ turned_left f g c constant = record {
         let y = product-over laws e k b a.pis c m t some low most constant.lowest.positive same small pis in
         record {
           angle = angle x.part y.part;
-          is = both_sides g f params (angle c nought) a Mul _ (constant.is params) is (product_left a c x.part y.part w x.is y.is);
+          is = both_sides g f params (angle c zero_fraction) a Mul _ (constant.is params) is (product_left a c x.part y.part w x.is y.is);
           plain = x.over;
           pis = y.over;
         }
@@ -493,12 +493,12 @@ turned_left f g c constant = record {
         let y = nought-over laws e b a.plain (m *ℤ t) some low most plain.lowest.positive none in
         record {
           angle = angle x.part y.part;
-          is = both_sides g f params (angle c nought) a Mul _ (constant.is params) is (product_left_plain a c x.part y.part w x.is y.is);
+          is = both_sides g f params (angle c zero_fraction) a Mul _ (constant.is params) is (product_left_plain a c x.part y.part w x.is y.is);
           plain = x.over;
           pis = y.over;
         }
 
-quotient_right : (a : Angle) (c x y : Fraction) → is_nought c ≡ false → fitted (quotient a.plain c) ≡ Ok x → fitted (quotient a.pis c) ≡ Ok y → quotient_of a (angle c nought) ≡ Ok (angle x y)
+quotient_right : (a : Angle) (c x y : Fraction) → is_nought c ≡ false → fitted (quotient a.plain c) ≡ Ok x → fitted (quotient a.pis c) ≡ Ok y → quotient_of a (angle c zero_fraction) ≡ Ok (angle x y)
 unfolding quotient_of
 quotient_right a c x y w e f =
     ap (λ (b : Bool). if b then Err ZeroDivisor else both (fitted (quotient a.plain c)) (fitted (quotient a.pis c))) w
@@ -520,25 +520,25 @@ turned_quotient f g c constant w = record {
       let y = product_over laws e k b a.pis (inverse_of c) m t some low most (inverse_positive c w) same small pis in
       record {
         angle = angle x.part y.part;
-        is = both_sides f g params a (angle c nought) Div _ is (constant.is params) (quotient_right a c x.part y.part w x.is y.is);
+        is = both_sides f g params a (angle c zero_fraction) Div _ is (constant.is params) (quotient_right a c x.part y.part w x.is y.is);
         plain = x.over;
         pis = y.over;
       };
 }
 
-pub gathered_right : (f g : Formula) (c : Fraction) (h k : ℕ) (s t : ℤ) (p r q : Sums) → IsConstant g c → IsScaled c h k s t → IsNoted h p r → IsGathered f k t r q → 0 < h → IsGathered (binary Mul f g) h s p q
+pub gathered_right : (f g : Formula) (c : Fraction) (h k : ℕ) (s t : ℤ) (p r q : Sums) → IsConstant g c → IsScaled c h k s t → AddsDenominator h p r → IsGathered f k t r q → 0 < h → IsGathered (binary Mul f g) h s p q
 gathered_right f g c h k s t p r q constant scale noted inner above = gathered_turned f (binary Mul f g) c h k s t p r q (turned_right f g c constant) scale noted inner above
 
-pub gathered_left : (f g : Formula) (c : Fraction) (h k : ℕ) (s t : ℤ) (p r q : Sums) → IsConstant g c → IsScaled c h k s t → IsNoted h p r → IsGathered f k t r q → 0 < h → IsGathered (binary Mul g f) h s p q
+pub gathered_left : (f g : Formula) (c : Fraction) (h k : ℕ) (s t : ℤ) (p r q : Sums) → IsConstant g c → IsScaled c h k s t → AddsDenominator h p r → IsGathered f k t r q → 0 < h → IsGathered (binary Mul g f) h s p q
 gathered_left f g c h k s t p r q constant scale noted inner above = gathered_turned f (binary Mul g f) c h k s t p r q (turned_left f g c constant) scale noted inner above
 
-pub gathered_quotient : (f g : Formula) (c : Fraction) (h k : ℕ) (s t : ℤ) (p r q : Sums) → IsConstant g c → is_nought c ≡ false → IsScaled (inverse_of c) h k s t → IsNoted h p r → IsGathered f k t r q → 0 < h → IsGathered (binary Div f g) h s p q
+pub gathered_quotient : (f g : Formula) (c : Fraction) (h k : ℕ) (s t : ℤ) (p r q : Sums) → IsConstant g c → is_nought c ≡ false → IsScaled (inverse_of c) h k s t → AddsDenominator h p r → IsGathered f k t r q → 0 < h → IsGathered (binary Div f g) h s p q
 gathered_quotient f g c h k s t p r q constant w scale noted inner above = gathered_turned f (binary Div f g) (inverse_of c) h k s t p r q (turned_quotient f g c constant w) scale noted inner above
 
 -- ---- all of it
-total-zeros : (xs : ℕ → ℤ) (j n : ℕ) → total xs j (replicate n (pos 0)) ≡ pos 0
+total-zeros : (xs : ℕ → ℤ) (j n : ℕ) → weighted_total xs j (replicate n (pos 0)) ≡ pos 0
 total-zeros xs j zero = refl
-total-zeros xs j (suc n) = step (xs j) (total xs (j + 1) (replicate n (pos 0))) (total-zeros xs (j + 1) n)
+total-zeros xs j (suc n) = step (xs j) (weighted_total xs (j + 1) (replicate n (pos 0))) (total-zeros xs (j + 1) n)
   where
     step : (x t : ℤ) → t ≡ pos 0 → pos 0 *ℤ x +ℤ t ≡ pos 0
     step x t e = let f : pos 0 *ℤ x +ℤ pos 0 ≡ pos 0 = omega (arith, ints) in ap (λ z. pos 0 *ℤ x +ℤ z) e ∙ f
@@ -559,8 +559,8 @@ form_of f h n p q g gathered none above e k =
           let ys = pis_at d params in
           let v = gathered.has laws d m params xs ys some over small far in
           let positive = mul-pos above some in
-          let plain = all_sum p.plain (total xs 0 p.factors.items) (plain_sum q d xs) v.plain d none.plain (ap (total xs 0) none.factors ∙ total-zeros xs 0 n) v.plain_is in
-          let pis = all_sum p.pis (total ys 0 p.factors.items) (pis_sum q d ys) v.pis d none.pis (ap (total ys 0) none.factors ∙ total-zeros ys 0 n) v.pis_is in
+          let plain = all_sum p.plain (weighted_total xs 0 p.factors.items) (plain_sum q d xs) v.plain d none.plain (ap (weighted_total xs 0) none.factors ∙ total-zeros xs 0 n) v.plain_is in
+          let pis = all_sum p.pis (weighted_total ys 0 p.factors.items) (pis_sum q d ys) v.pis d none.pis (ap (weighted_total ys 0) none.factors ∙ total-zeros ys 0 n) v.pis_is in
           v.is ∙ (λ i. Ok (angle (lowest_over laws (h * d) v.room v.angle.plain v.plain positive v.plain_over i) (lowest_over laws (h * d) v.room v.angle.pis v.pis positive v.pis_over i)))
           ∙ (λ i. Ok (angle (lowest (fraction (plain i) (h * d))) (lowest (fraction (pis i) (h * d)))));
     })

@@ -11,7 +11,7 @@ use Rattle.std.specs.Int.RustNames.{int_div}
 use Rattle.std.proofs.lemmas.Int.{ints, unsigned_abs-mul}
 use Rattle.std.proofs.Math.IntN.{*ℤ_comm, zero-*ℤ}
 use Rattle.std.proofs.Math.Nat.{mul-pos, div-mul_cancel, mul-div_cancel_left, div-le_self, div-one, mul-le-mul_left, zero-lt-suc}
-use Rattle.angle_fraction.specs.Fraction.{Fraction, IsLowest, IsReduced, common_factor, difference, fraction, greatest_common, is_small, lowest, most_part, nought, opposite, product, sum}
+use Rattle.angle_fraction.specs.Fraction.{Fraction, IsLowest, IsReduced, common_factor, difference, fraction, greatest_common, is_small, lowest, most_part, zero_fraction, opposite, product, sum}
 use Rattle.angle_fraction.specs.Angles.{fitted}
 use Rattle.unitary_model.proofs.RingLaws.{add_mul}
 use Rattle.linear_forms.specs.Linear.{IsOver, LowestLaws}
@@ -180,14 +180,14 @@ product-over laws e k b x c n t some small most positive g turn h =
     fitted_over laws e b (product c x) (n *ℤ t) some small most (mul-pos positive h.lowest.positive) (cross_product-left x.num c.num n t x.den c.den e k h.same g) (size_turned n t b h.size turn)
 
 -- ---- 0
-lowest-nought : common_factor nought ≡ 1
+lowest-nought : common_factor zero_fraction ≡ 1
 unfolding common_factor greatest_common
 lowest-nought = refl
 
-pub nought_lowest : IsLowest nought
+pub nought_lowest : IsLowest zero_fraction
 nought_lowest = record { positive = lit< tt; coprime = lowest-nought }
 
-pub nought_is : (e b : ℕ) → IsOver e b nought (pos 0)
+pub nought_is : (e b : ℕ) → IsOver e b zero_fraction (pos 0)
 nought_is e b = record { lowest = nought_lowest; same = omega (arith, ints); size = omega arith }
 
 only_nought : (n : ℤ) (d : ℕ) → 0 < d → unsigned_abs n * d ≡ 0 → n ≡ pos 0
@@ -209,9 +209,9 @@ none-over : (yn : ℤ) (e yd : ℕ) → (pos 0 *ℤ yn) *ℤ pos e ≡ pos 0 *�
 none-over yn e yd = ap (λ z. z *ℤ pos e) (zero-*ℤ yn) ∙ zero-*ℤ (pos e) ∙ sym (zero-*ℤ (pos (1 * yd)))
 
 -- what is 0 by any number is 0
-pub nought-over : LowestLaws → (e b : ℕ) (y : Fraction) (m : ℤ) → 0 < e → e ≤ most_part → b ≤ most_part → 0 < y.den → m ≡ pos 0 → HasFitted e b (product nought y) m
+pub nought-over : LowestLaws → (e b : ℕ) (y : Fraction) (m : ℤ) → 0 < e → e ≤ most_part → b ≤ most_part → 0 < y.den → m ≡ pos 0 → HasFitted e b (product zero_fraction y) m
 nought-over laws e b y m some small most positive z =
-    fitted_over laws e b (product nought y) m some small most (mul-pos (lit< tt) positive) (cross y.num e y.den m z) (subst (λ n. unsigned_abs n ≤ b) (sym z) (omega arith))
+    fitted_over laws e b (product zero_fraction y) m some small most (mul-pos (lit< tt) positive) (cross y.num e y.den m z) (subst (λ n. unsigned_abs n ≤ b) (sym z) (omega arith))
   where
     cross : (yn : ℤ) (e yd : ℕ) (m : ℤ) → m ≡ pos 0 → (pos 0 *ℤ yn) *ℤ pos e ≡ m *ℤ pos (1 * yd)
     cross yn e yd m z = subst (λ n. (pos 0 *ℤ yn) *ℤ pos e ≡ n *ℤ pos (1 * yd)) (sym z) (none-over yn e yd)

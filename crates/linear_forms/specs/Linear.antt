@@ -1,9 +1,9 @@
 -- Expressions of parameters that are sums of these.
 --     IsOver e b x n      a fraction in lowest terms is n over e, and n is at most b in size
 --     param_at params i   the parameter at a place
---     whole d x           the numerator of a fraction over d
+--     numerator_over d x  the numerator of a fraction over d
 --     plain_at, pis_at    those of the two parts of the parameter at a place
---     total xs i cs       the sum of products with the numbers from i on
+--     weighted_total xs i cs  the sum of products with the numbers from i on
 --     reach p d m         how large numerators over d are, if those of the parameters are at most m
 --     plain_sum, pis_sum  the numerators of the two parts
 --     AreOver d m n params xs ys      the parts of the first n parameters are numbers over d, at most m in size
@@ -12,14 +12,14 @@
 --     IsGathered f h s p q    an expression was put into sums
 --     IsConstant f c      an expression has one value, a plain one
 --     IsScaled c h k s t  steps and signs of a product with a constant and of its other side
---     IsNoted h p q       the same sums, with a denominator more
+--     AddsDenominator h p q  the same sums, with a denominator more
 --     IsNothingYet n p    sums of nothing, for n parameters
 --     AreFormTotals g d params t      the numerators of a form's value
 --     IsOneMore d c a t u     one parameter more;  AreSoFar: those of the first ones
 --     IsForm f g          where the bounds of a form hold an expression has the value that it tells
 use Rattle.std.specs.Prelude.{◌≡◌, ℕ, ◌+◌, ◌*◌, ◌<◌, ◌≤◌, ℤ, pos, ◌+ℤ◌, ◌*ℤ◌, unsigned_abs, List, [], ◌∷◌, Ok, drop, length, replicate, slice_get, unwrap_or}
 use Rattle.std.specs.Int.RustNames.{int_div}
-use Rattle.angle_fraction.specs.Fraction.{Fraction, IsLowest, IsReduced, fraction, lowest, most_part, nought}
+use Rattle.angle_fraction.specs.Fraction.{Fraction, IsLowest, IsReduced, fraction, lowest, most_part, zero_fraction}
 use Rattle.angle_fraction.specs.Angles.{angle}
 use Rattle.angle_fraction.specs.declared.Angle.{Angle}
 use Rattle.gate_library.specs.Gates.{Formula}
@@ -36,27 +36,27 @@ pub record IsOver (e b : ℕ) (x : Fraction) (n : ℤ) : Type 0 where
 abbrev pub param_at : List Angle → ℕ → Angle
 param_at params i = unwrap_or (slice_get params i) no_angle
 
-abbrev pub whole : ℕ → Fraction → ℤ
-whole d x = int_div (x.num *ℤ pos d) (pos x.den)
+abbrev pub numerator_over : ℕ → Fraction → ℤ
+numerator_over d x = int_div (x.num *ℤ pos d) (pos x.den)
 
 abbrev pub plain_at : ℕ → List Angle → ℕ → ℤ
-plain_at d params i = whole d (param_at params i).plain
+plain_at d params i = numerator_over d (param_at params i).plain
 
 abbrev pub pis_at : ℕ → List Angle → ℕ → ℤ
-pis_at d params i = whole d (param_at params i).pis
+pis_at d params i = numerator_over d (param_at params i).pis
 
-abbrev pub total : (ℕ → ℤ) → ℕ → List ℤ → ℤ
-total xs i [] = pos 0
-total xs i (c ∷ cs) = c *ℤ xs i +ℤ total xs (i + 1) cs
+abbrev pub weighted_total : (ℕ → ℤ) → ℕ → List ℤ → ℤ
+weighted_total xs i [] = pos 0
+weighted_total xs i (c ∷ cs) = c *ℤ xs i +ℤ weighted_total xs (i + 1) cs
 
 abbrev pub reach : Sums → ℕ → ℕ → ℕ
 reach p d m = p.fixed * d + p.times * m
 
 abbrev pub plain_sum : Sums → ℕ → (ℕ → ℤ) → ℤ
-plain_sum p d xs = p.plain *ℤ pos d +ℤ total xs 0 p.factors.items
+plain_sum p d xs = p.plain *ℤ pos d +ℤ weighted_total xs 0 p.factors.items
 
 abbrev pub pis_sum : Sums → ℕ → (ℕ → ℤ) → ℤ
-pis_sum p d ys = p.pis *ℤ pos d +ℤ total ys 0 p.factors.items
+pis_sum p d ys = p.pis *ℤ pos d +ℤ weighted_total ys 0 p.factors.items
 
 pub record AreOver (d m n : ℕ) (params : List Angle) (xs ys : ℕ → ℤ) : Type 0 where
   pub plain : (i : ℕ) → i < n → IsOver d m (param_at params i).plain (xs i)
@@ -90,7 +90,7 @@ pub record IsGathered (f : Formula) (h : ℕ) (s : ℤ) (p q : Sums) : Type 0 wh
 
 pub record IsConstant (f : Formula) (c : Fraction) : Type 0 where
   pub lowest : IsLowest c
-  pub is : (params : List Angle) → value params f ≡ Ok (angle c nought)
+  pub is : (params : List Angle) → value params f ≡ Ok (angle c zero_fraction)
 
 pub record IsScaled (c : Fraction) (h k : ℕ) (s t : ℤ) : Type 0 where
   pub turn : ℤ
@@ -99,7 +99,7 @@ pub record IsScaled (c : Fraction) (h k : ℕ) (s t : ℤ) : Type 0 where
   pub small : unsigned_abs turn ≤ 1
   pub positive : 0 < k
 
-pub record IsNoted (h : ℕ) (p q : Sums) : Type 0 where
+pub record AddsDenominator (h : ℕ) (p q : Sums) : Type 0 where
   pub plain : q.plain ≡ p.plain
   pub pis : q.pis ≡ p.pis
   pub factors : q.factors.items ≡ p.factors.items
@@ -126,13 +126,13 @@ pub record AreFormTotals (g : Form) (d : ℕ) (params : List Angle) (t : Totals)
   pub pis : t.pis ≡ pis_sum g.sums d (pis_at d params)
 
 pub record IsOneMore (d : ℕ) (c : ℤ) (a : Angle) (t u : Totals) : Type 0 where
-  pub plain : u.plain ≡ t.plain +ℤ c *ℤ whole d a.plain
-  pub pis : u.pis ≡ t.pis +ℤ c *ℤ whole d a.pis
-  pub plain_over : IsOver d u.most a.plain (whole d a.plain)
-  pub pis_over : IsOver d u.most a.pis (whole d a.pis)
+  pub plain : u.plain ≡ t.plain +ℤ c *ℤ numerator_over d a.plain
+  pub pis : u.pis ≡ t.pis +ℤ c *ℤ numerator_over d a.pis
+  pub plain_over : IsOver d u.most a.plain (numerator_over d a.plain)
+  pub pis_over : IsOver d u.most a.pis (numerator_over d a.pis)
   pub most : t.most ≤ u.most
 
 pub record AreSoFar (g : Form) (d : ℕ) (params : List Angle) (i : ℕ) (t : Totals) : Type 0 where
   pub over : AreOver d t.most i params (plain_at d params) (pis_at d params)
-  pub plain : plain_sum g.sums d (plain_at d params) ≡ t.plain +ℤ total (plain_at d params) i (drop i g.sums.factors.items)
-  pub pis : pis_sum g.sums d (pis_at d params) ≡ t.pis +ℤ total (pis_at d params) i (drop i g.sums.factors.items)
+  pub plain : plain_sum g.sums d (plain_at d params) ≡ t.plain +ℤ weighted_total (plain_at d params) i (drop i g.sums.factors.items)
+  pub pis : pis_sum g.sums d (pis_at d params) ≡ t.pis +ℤ weighted_total (pis_at d params) i (drop i g.sums.factors.items)

@@ -5,7 +5,7 @@
 --     value params f      the value of an expression: operands first, the left before the right; or the first fault
 --     values params fs    those of several, from left to right; or the first fault
 use Rattle.std.specs.Prelude.{List, [], ◌∷◌, Result, Ok, Err, slice_get, unwrap_or}
-use Rattle.angle_fraction.specs.Fraction.{nought, unit}
+use Rattle.angle_fraction.specs.Fraction.{zero_fraction, one_fraction}
 use Rattle.angle_fraction.specs.Angles.{angle, sum_of, difference_of, opposite_of, product_of, quotient_of, power_of}
 use Rattle.angle_fraction.specs.declared.Angle.{Angle}
 use Rattle.angle_fraction.specs.declared.AngleFault.{AngleFault}
@@ -26,12 +26,12 @@ operation Div a b = quotient_of a b
 operation Pow a b = power_of a b
 
 abbrev pub no_angle : Angle
-no_angle = angle nought nought
+no_angle = angle zero_fraction zero_fraction
 
 -- the six functions have no exact value, but their argument may have another fault
 abbrev pub value : List Angle → Formula → Result Angle AngleFault
-value params (number x) = Ok (angle x nought)
-value params pi = Ok (angle nought unit)
+value params (number x) = Ok (angle x zero_fraction)
+value params pi = Ok (angle zero_fraction one_fraction)
 value params (param index) = Ok (unwrap_or (slice_get params index) no_angle)
 value params (negated part) = and_next (value params part) opposite_of
 value params (called function part) = and_next (value params part) (λ a. Err Form)

@@ -4,8 +4,8 @@ ghost use Rattle.std.specs.Prelude.{◌≡◌, ◌+◌, ◌*◌, ◌<◌, ◌≤
 ghost use Rattle.angle_fraction.specs.Fraction.{Fraction, fraction, inverse_of, most_part};
 ghost use Rattle.angle_fraction.specs.Angles.{fitted, is_nought};
 ghost use Rattle.gate_library.specs.Gates.{Formula as SpecFormula, number as number_of, param as param_of, pi as pi_of};
-ghost use Rattle.gate_library.specs.Views.{formula as formula_view};
-ghost use Rattle.linear_forms.specs.Linear.{AreFormTotals, IsConstant, IsForm, IsGathered, IsNoted, IsNothingYet, IsOneMore, IsScaled, reach};
+ghost use Rattle.gate_library.specs.Views.{formula_view};
+ghost use Rattle.linear_forms.specs.Linear.{AreFormTotals, IsConstant, IsForm, IsGathered, AddsDenominator, IsNothingYet, IsOneMore, IsScaled, reach};
 ghost use Rattle.linear_forms.specs.Values.{value as value_of};
 
 use crate::value::param;
@@ -270,7 +270,7 @@ fn quotient_scale(number: &Frac, step: u64, sign: i64) -> Option<Scale>
 
 /// The same sums, which have a part with such a denominator.
 fn noted(sums: Sums, step: u64) -> Sums
-    ensures { IsNoted step sums result }
+    ensures { AddsDenominator step sums result }
 {
     let Sums {
         plain,

@@ -2,7 +2,7 @@
 
 ghost use Rattle.std.specs.Prelude.{◌≡◌, ◌<◌, [], ◌∷◌, IfOk, IfSome, List, Some, length, map, slice_get, unwrap_or};
 ghost use Rattle.gate_library.specs.Gates.{Formula as SpecFormula};
-ghost use Rattle.gate_library.specs.Views.{formula as formula_view, item as item_view};
+ghost use Rattle.gate_library.specs.Views.{formula_view, item_view};
 ghost use Rattle.gate_library.specs.declared.gate.BoundGate.{BoundGate as CodeGate};
 ghost use Rattle.linear_forms.specs.Linear.{IsForm};
 ghost use Rattle.linear_forms.specs.Lines.{AreForms, angles_in, gate_body};
@@ -21,7 +21,7 @@ pub struct Line<'a> {
 
 impl<'a> Model for Line<'a> {
     ghost use Rattle.std.specs.Coded.{codes};
-    ghost use Rattle.gate_library.specs.Views.{item as item_view};
+    ghost use Rattle.gate_library.specs.Views.{item_view};
     ghost use Rattle.gate_library.specs.contracts.formula.Formula as formula;
     ghost use Rattle.gate_library.specs.declared.gate.Item.{Item};
     ghost use Rattle.linear_forms.specs.Lines.{AreForms, angles_in};

@@ -1,7 +1,7 @@
 //! The values of angles.
 
 ghost use Rattle.std.specs.Prelude.{◌≡◌, Ok, IfSome, slice_get, unwrap_or};
-ghost use Rattle.gate_library.specs.Views.{formula as formula_view};
+ghost use Rattle.gate_library.specs.Views.{formula_view};
 ghost use Rattle.linear_forms.specs.Linear.{IsForm};
 ghost use Rattle.linear_forms.specs.Values.{no_angle, operation as operation_of, value as value_of};
 

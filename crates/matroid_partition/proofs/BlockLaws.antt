@@ -21,7 +21,7 @@ use Rattle.std.proofs.Math.Seq.{take-suc, take-length}
 use Rattle.gf2_linear.specs.Rows.{is_sum, is_independent, rows_at}
 use Rattle.gf2_linear.proofs.SumLaws.{taken-insert, item}
 use Rattle.std.specs.Borrow.{Bor}
-use Rattle.matroid_partition.specs.Blocks.{values}
+use Rattle.matroid_partition.specs.Blocks.{referenced_rows}
 use Rattle.matroid_partition.specs.Places.{Has, put_in, taken_out}
 use Rattle.matroid_partition.proofs.PlaceLaws.{Has-at, Has-put_in, at-Has}
 use Rattle.matroid_partition.proofs.Exchanges.{Has-span, Free-put_in}
@@ -32,11 +32,11 @@ append_nil : (xs : List ℕ) → xs ++ [] ≡ xs
 append_nil [] = refl
 append_nil (x ∷ xs) = ap (λ k. x ∷ k) (append_nil xs)
 
-pub length-values : (rs : List (Bor ℕ)) → length (values rs) ≡ length rs
+pub length-values : (rs : List (Bor ℕ)) → length (referenced_rows rs) ≡ length rs
 length-values rs = length-map rs (λ (r : Bor ℕ). r.now)
 
-pub values-push : (old new : List (Bor ℕ)) (r : Bor ℕ) → new ≡ old ++ r ∷ [] → values new ≡ values old ++ r.now ∷ []
-values-push old new r e = ap values e ∙ map-append (λ (x : Bor ℕ). x.now) old (r ∷ [])
+pub values-push : (old new : List (Bor ℕ)) (r : Bor ℕ) → new ≡ old ++ r ∷ [] → referenced_rows new ≡ referenced_rows old ++ r.now ∷ []
+values-push old new r e = ap referenced_rows e ∙ map-append (λ (x : Bor ℕ). x.now) old (r ∷ [])
 
 pub within-one : (ps : List ℕ) (i n : ℕ) → ps ≡ i ∷ [] → i < n → All (λ j. j < n) ps
 within-one ps i n e l = subst (All (λ j. j < n)) (sym e) one
@@ -45,7 +45,7 @@ within-one ps i n e l = subst (All (λ j. j < n)) (sym e) one
     one zero d h = l
     one (suc k) d h = absurd (omega arith)
 
-pub value-at : (rs : List (Bor ℕ)) (i : ℕ) (d : Bor ℕ) (e : ℕ) → i < length rs → (get_or rs i d).now ≡ get_or (values rs) i e
+pub value-at : (rs : List (Bor ℕ)) (i : ℕ) (d : Bor ℕ) (e : ℕ) → i < length rs → (get_or rs i d).now ≡ get_or (referenced_rows rs) i e
 value-at rs i d e l = sym (get_or-map (λ (r : Bor ℕ). r.now) rs i d e l)
 
 pub range-more : (n : ℕ) → range_with_len 0 (n + 1) ≡ range_with_len 0 n ++ n ∷ []

@@ -18,12 +18,12 @@ use Rattle.std.proofs.lemmas.Bool.{both_ways, cases_lt, cases_eq, eq-eqb, ne_eqb
 use Rattle.std.proofs.lemmas.List.{length-append, length-map, map-append, get_or-map, get_or_append_left, get_or_past, get_or_push, get_or-set_same, get_or-set_other}
 use Rattle.matroid_partition.specs.declared.blocks.Block.{Block}
 use Rattle.gf2_linear.specs.Wide.{count_of}
-use Rattle.matroid_partition.specs.Partitions.{times}
+use Rattle.matroid_partition.specs.Partitions.{occurrences}
 use Rattle.matroid_partition.specs.Places.{Has, IsAscending}
 use Rattle.matroid_partition.specs.Blocks.{IsState, SpansFirst, places_at}
 use Rattle.matroid_partition.specs.Arrangements.{Arrangement, IsArranged, IsWidened, rows_with}
 use Rattle.matroid_partition.specs.Closed.{IsClosed, places_seen, seen_among}
-use Rattle.matroid_partition.specs.Dealings.{AreMarked, AreRows, IsBack, IsDealing, IsHeld, IsMarked, IsOpened, IsShownWide, IsStuckAll, IsUnchanged}
+use Rattle.matroid_partition.specs.Dealings.{AreMarkedSpanned, AreRows, IsBack, IsDealing, IsHeld, AddsMarks, IsOpened, IsShownWide, IsStuckAll, IsUnchanged}
 use Rattle.matroid_partition.specs.Searches.{IsSeen}
 use Rattle.matroid_partition.specs.declared.dealing.Dealing.{Dealing}
 use Rattle.gf2_linear.specs.Rows.{is_sum, rank, rows_at}
@@ -113,24 +113,24 @@ named_lists names [] = []
 named_lists names (b ∷ blocks) = map (λ q. get_or names q 0) b.places.items ∷ named_lists names blocks
 
 times-same : (names : List ℕ) (y p : ℕ) (blocks : List Block) → p < length names → get_or names p 0 ≡ y → count_of y names ≤ 1
-    → ((k q : ℕ) → Has (places_at blocks k) q → q < length names) → times y (named_lists names blocks) ≡ times p (map (λ b. b.places.items) blocks)
+    → ((k q : ℕ) → Has (places_at blocks k) q → q < length names) → occurrences y (named_lists names blocks) ≡ occurrences p (map (λ b. b.places.items) blocks)
 times-same names y p [] l e c h = refl
 times-same names y p (b ∷ blocks) l e c h =
     λ i. count-named names y p b.places.items l e c (h 0) i + times-same names y p blocks l e c (λ k. h (suc k)) i
 
-times-none : (names : List ℕ) (y : ℕ) (blocks : List Block) → count_of y names ≡ 0 → ((k q : ℕ) → Has (places_at blocks k) q → q < length names) → times y (named_lists names blocks) ≡ 0
+times-none : (names : List ℕ) (y : ℕ) (blocks : List Block) → count_of y names ≡ 0 → ((k q : ℕ) → Has (places_at blocks k) q → q < length names) → occurrences y (named_lists names blocks) ≡ 0
 times-none names y [] c h = refl
 times-none names y (b ∷ blocks) c h = λ i. count-unnamed names y b.places.items c (h 0) i + times-none names y blocks c (λ k. h (suc k)) i
 
 -- a place stands in the blocks as often as it is a name
 pub times-named : (held homes names : List ℕ) (blocks : List Block) (y : ℕ) → IsState held homes blocks → length homes ≡ length names → count_of y names ≤ 1
-    → times y (named_lists names blocks) ≡ count_of y names
+    → occurrences y (named_lists names blocks) ≡ count_of y names
 times-named held homes names blocks y st n c = go (cases_lt (count_of y names) 1)
   where
     within : (k q : ℕ) → Has (places_at blocks k) q → q < length names
     within k q t = let l : q < length homes = (st.only k q t).0 in omega (arith, n)
 
-    go : (count_of y names < 1) ⊎ (1 ≤ count_of y names) → times y (named_lists names blocks) ≡ count_of y names
+    go : (count_of y names < 1) ⊎ (1 ≤ count_of y names) → occurrences y (named_lists names blocks) ≡ count_of y names
     go (inl l) = let z : count_of y names ≡ 0 = omega arith in times-none names y blocks z within ∙ sym z
     go (inr g) =
         let r : (p : ℕ) × (p < length names) × (get_or names p 0 ≡ y) = count-found y names g in
@@ -159,7 +159,7 @@ witness-by_names r m held homes names over S blocks st n once a o c g =
     subst (λ k. k * (rank (map r S) + m) < length S) (length-named names blocks)
     (spare-witness-more r m S over (named_lists names blocks) (distinct-ascending S a)
     (at_most-from S (over ∷ named_lists names blocks) (λ y. let u : count_of y names + count_of y over ≤ 1 = once y in
-    let t : times y (named_lists names blocks) ≡ count_of y names = times-named held homes names blocks y st n (omega arith) in omega (arith, t)))
+    let t : occurrences y (named_lists names blocks) ≡ count_of y names = times-named held homes names blocks y st n (omega arith) in omega (arith, t)))
     (closed-lists r S names blocks c) o (subst (λ k. k * m < length over) (sym (length-named names blocks)) g))
 
 -- ---- marks
@@ -181,7 +181,7 @@ spans-marked r old new ps v k s = Span-within (map r (seen_among new ps)) (map r
 -- what one search reached, by names
 pub closed-union : (rows : List ℕ) (o : Dealing) (place : ℕ) (seen old mid new : List Bool) → IsArranged o.held → IsHeld rows o
     → IsClosed (rows_with o.held (get_or rows place 0)) o.held.homes o.held.blocks seen
-    → AreMarked rows o old → IsMarked old mid o.names.items seen → ((y : ℕ) → IsSeen mid y → IsSeen new y) → ((y : ℕ) → IsSeen new y → IsSeen mid y ⊎ (place ≡ y)) → AreMarked rows o new
+    → AreMarkedSpanned rows o old → AddsMarks old mid o.names.items seen → ((y : ℕ) → IsSeen mid y → IsSeen new y) → ((y : ℕ) → IsSeen new y → IsSeen mid y ⊎ (place ≡ y)) → AreMarkedSpanned rows o new
 unfolding rows_at
 closed-union rows o place seen old mid new w h c a m keep only k y l s =
     Span-is_sum (map r (seen_among new (names k))) (r y) (elim (only y s) [

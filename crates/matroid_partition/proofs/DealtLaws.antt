@@ -22,12 +22,12 @@ use Rattle.std.proofs.lemmas.List.FromFn.{length-range_with_len}
 use Rattle.std.proofs.lemmas.Nat.{div-add-mod', div_below, mod_below}
 use Rattle.matroid_partition.specs.declared.dealing.Dealing.{Dealing}
 use Rattle.gf2_linear.specs.Wide.{count_of}
-use Rattle.matroid_partition.specs.Partitions.{times}
+use Rattle.matroid_partition.specs.Partitions.{occurrences}
 use Rattle.matroid_partition.specs.Spares.{IsSparePartition, IsSpareWitness}
 use Rattle.matroid_partition.specs.Places.{Has, IsAscending}
 use Rattle.matroid_partition.specs.Arrangements.{IsArranged}
 use Rattle.matroid_partition.specs.Blocks.{places_at}
-use Rattle.matroid_partition.specs.Dealings.{IsDealing, IsHoused, IsShownWide, IsWritten, at_home, names_at}
+use Rattle.matroid_partition.specs.Dealings.{IsDealing, IsHoused, IsShownWide, AreWrittenAt, at_home, names_at}
 use Rattle.gf2_linear.specs.Rows.{rank, rows_at}
 use Rattle.gf2_linear.proofs.Spans.{Free}
 use Rattle.matroid_partition.proofs.PlaceLaws.{Has-at, at-Has, count_of-none, count_of-one, IsStrictlyIncreasing-ascending}
@@ -40,8 +40,8 @@ use Rattle.matroid_partition.proofs.SpareLaws.{All_wide, least-by_spare_witness,
 use Rattle.matroid_partition.proofs.DealingLaws.{Has-count, Has-map, count-first, count-found, count-unique, dealing-rows, held-named, held-told}
 
 -- ---- numbers at different places
-pub written-more : (old now places numbers : List ℕ) (n : ℕ) → IsWritten old now places numbers n → n < length places → ((y : ℕ) → count_of y places ≤ 1)
-    → get_or places n 0 < length old → IsWritten old (set now (get_or places n 0) (get_or numbers n 0)) places numbers (n + 1)
+pub written-more : (old now places numbers : List ℕ) (n : ℕ) → AreWrittenAt old now places numbers n → n < length places → ((y : ℕ) → count_of y places ≤ 1)
+    → get_or places n 0 < length old → AreWrittenAt old (set now (get_or places n 0) (get_or numbers n 0)) places numbers (n + 1)
 written-more old now places numbers n w l once b = record {
   long = length-set now p x ∙ w.long;
   there = λ j m. elim (cases_eq j n) [
@@ -79,8 +79,8 @@ over-below rows n m c d g = within-from (length rows) d.over.items (dealing-rows
 
 -- written for those held first, then for those put by
 pub homes-housed : (rows : List ℕ) (m : ℕ) (d : Dealing) (first homes given last : List ℕ) → IsDealing rows (length rows) m 0 d → length first ≡ length rows
-    → IsWritten first homes d.names.items d.held.homes (length d.names.items) → ((j : ℕ) → j < length d.over.items → get_or given j 0 ≡ j / m)
-    → IsWritten homes last d.over.items given (length d.over.items) → IsHoused (length rows) m d last
+    → AreWrittenAt first homes d.names.items d.held.homes (length d.names.items) → ((j : ℕ) → j < length d.over.items → get_or given j 0 ≡ j / m)
+    → AreWrittenAt homes last d.over.items given (length d.over.items) → IsHoused (length rows) m d last
 homes-housed rows m d first homes given last g a w s v = record {
   long = v.long ∙ w.long ∙ a;
   held = λ p l. v.others (get_or d.names.items p 0) (λ h.
@@ -136,7 +136,7 @@ count-home homes k y l = elim (cases_eq k (get_or homes y 0)) [
   | inr n ↦ count_of-none y (at_home homes k) (λ h. n (sym (home-from homes k y h).1)) ∙ sym (ap (λ b. cond b 1 0) (ne_eqb k (get_or homes y 0) n))
 ]
 
-times-homes : (homes : List ℕ) (y : ℕ) (ks : List ℕ) → y < length homes → times y (map (at_home homes) ks) ≡ count_of (get_or homes y 0) ks
+times-homes : (homes : List ℕ) (y : ℕ) (ks : List ℕ) → y < length homes → occurrences y (map (at_home homes) ks) ≡ count_of (get_or homes y 0) ks
 times-homes homes y [] l = refl
 times-homes homes y (k ∷ ks) l = λ i. count-home homes k y l i + times-homes homes y ks l i
 
@@ -277,14 +277,14 @@ IsSpareWitness-shown rows m count d witness shown lists u p c l one other = elim
   ])
 ]
   where
-    nowhere : (bs : List (List ℕ)) → length bs ≡ 0 → times 0 bs ≡ 1 → ⊥
+    nowhere : (bs : List (List ℕ)) → length bs ≡ 0 → occurrences 0 bs ≡ 1 → ⊥
     nowhere [] z t = absurd (omega (arith, t))
     nowhere (b ∷ bs) z t = absurd (omega (arith, z))
 
 at_least-spare : (rows : List ℕ) (m : ℕ) (other : List (List ℕ)) → IsSparePartition rows m other → (S : List ℕ) → ((y : ℕ) → Has S y → y < length rows) → At_least_once S other
 at_least-spare rows m other p [] h = tt
 at_least-spare rows m other p (s ∷ S) h = (
-  (let t : times s other ≡ 1 = p.once s (h s (inl refl)) in omega arith),
+  (let t : occurrences s other ≡ 1 = p.once s (h s (inl refl)) in omega arith),
   at_least-spare rows m other p S (λ y t. h y (inr t)),
 )
 

@@ -11,7 +11,7 @@ use Rattle.std.proofs.lemmas.List.Elements.{All-push, All-weaker, filter-append}
 use Rattle.std.proofs.lemmas.List.FromFn.{get_or-range_with_len, length-range_with_len}
 use Rattle.matroid_partition.specs.declared.blocks.Block.{Block}
 use Rattle.matroid_partition.specs.Places.{Has}
-use Rattle.matroid_partition.specs.Blocks.{IsOpen}
+use Rattle.matroid_partition.specs.Blocks.{AreOthersFull}
 use Rattle.matroid_partition.proofs.PlaceLaws.{at-Has}
 use Rattle.matroid_partition.proofs.BlockLaws.{range-more}
 
@@ -25,7 +25,7 @@ range-below n k d l =
     let s : k < n = subst (λ m. k < m) (length-range_with_len 0 n) l in
     subst (λ m. m < n) (sym (get_or-range_with_len 0 n k d s ∙ zero-add k)) s
 
-pub IsOpen-all : (full : ℕ) (blocks : List Block) → IsOpen full blocks (range_with_len 0 (length blocks))
+pub IsOpen-all : (full : ℕ) (blocks : List Block) → AreOthersFull full blocks (range_with_len 0 (length blocks))
 IsOpen-all full blocks = record {
   within = range-below (length blocks);
   others = λ k d l n. absurd (n (Has-range (length blocks) k l));
@@ -39,7 +39,7 @@ pub Has-append_new : (ps : List ℕ) (x : ℕ) → Has (ps ++ x ∷ []) x
 Has-append_new [] x = inl refl
 Has-append_new (p ∷ ps) x = inr (Has-append_new ps x)
 
-pub IsOpen-begun : (full : ℕ) (blocks : List Block) (unfilled : List ℕ) (b : Block) → IsOpen full blocks unfilled → IsOpen full (blocks ++ b ∷ []) (unfilled ++ length blocks ∷ [])
+pub IsOpen-begun : (full : ℕ) (blocks : List Block) (unfilled : List ℕ) (b : Block) → AreOthersFull full blocks unfilled → AreOthersFull full (blocks ++ b ∷ []) (unfilled ++ length blocks ∷ [])
 IsOpen-begun full blocks unfilled b o = record {
   within = All-push (λ k. k < length (blocks ++ b ∷ [])) unfilled (length blocks)
       (All-weaker (λ k. k < length blocks) (λ k. k < length (blocks ++ b ∷ [])) (λ k l. omega (arith, length-append blocks (b ∷ []))) unfilled o.within)

@@ -19,11 +19,11 @@ use Rattle.std.proofs.lemmas.List.FromFn.{length-range_with_len}
 use Rattle.matroid_partition.specs.declared.blocks.Block.{Block}
 use Rattle.matroid_partition.specs.declared.search.Node.{Node}
 use Rattle.gf2_linear.specs.Wide.{count_of}
-use Rattle.matroid_partition.specs.Partitions.{times, IsPartition, IsWitness}
+use Rattle.matroid_partition.specs.Partitions.{occurrences, IsPartition, IsWitness}
 use Rattle.matroid_partition.specs.Places.{Has, IsAscending}
-use Rattle.matroid_partition.specs.Blocks.{IsOpen, IsShown, IsState, OthersSpan, SpansFirst, places_at}
+use Rattle.matroid_partition.specs.Blocks.{AreOthersFull, IsShown, IsState, OthersSpan, SpansFirst, places_at}
 use Rattle.matroid_partition.specs.Arrangements.{Arrangement}
-use Rattle.matroid_partition.specs.Searches.{node_at, row_of, IsChain}
+use Rattle.matroid_partition.specs.Searches.{search_node, row_of, IsChain}
 use Rattle.gf2_linear.specs.Rows.{is_independent, is_sum, rank, row_sum, rows_at}
 use Rattle.gf2_linear.proofs.Spans.{Span, All_span, Free, Span-zero, Span-add, steinitz}
 use Rattle.gf2_linear.proofs.Ranks.{is_sum-spanned, Span-is_sum, independent-Free}
@@ -62,7 +62,7 @@ full-spans rows homes blocks all k d x st sp l f h = elim (cases_Bool (is_sum (g
 ]
 
 pub others-span : (rows homes : List ℕ) (blocks : List Block) (all unfilled : List ℕ) (x : ℕ) → IsState rows homes blocks → SpansFirst (length homes) rows all
-    → IsOpen (length all) blocks unfilled → is_sum all x ≡ true → OthersSpan blocks unfilled x
+    → AreOthersFull (length all) blocks unfilled → is_sum all x ≡ true → OthersSpan blocks unfilled x
 others-span rows homes blocks all unfilled x st sp o h k d l n = full-spans rows homes blocks all k d x st sp l (o.others k d l n) h
 
 pub basis-length : (rows homes : List ℕ) (blocks : List Block) (k : ℕ) (d : Block) → IsState rows homes blocks → k < length blocks
@@ -73,7 +73,7 @@ basis-length rows homes blocks k d st l =
 
 -- what a chain leaves of the sizes
 pub sizes-kept : (rows homes homes' : List ℕ) (blocks blocks' : List Block) (unfilled : List ℕ) (full end : ℕ) → IsState rows homes blocks → IsState rows homes' blocks'
-    → length blocks' ≡ length blocks → ((k : ℕ) → length (places_at blocks' k) ≡ length (places_at blocks k) + cond (nat_eq k end) 1 0) → IsOpen full blocks unfilled
+    → length blocks' ≡ length blocks → ((k : ℕ) → length (places_at blocks' k) ≡ length (places_at blocks k) + cond (nat_eq k end) 1 0) → AreOthersFull full blocks unfilled
     → (k : ℕ) (d : Block) → k < length blocks' → (Has unfilled k → ⊥) → (k ≡ end → ⊥) → length (get_or blocks' k d).basis ≡ full
 sizes-kept rows homes homes' blocks blocks' unfilled full end st st' e s o k d l n m =
     let l' : k < length blocks = subst (λ q. k < q) e l in
@@ -85,37 +85,37 @@ sizes-kept rows homes homes' blocks blocks' unfilled full end st st' e s o k d l
 
 -- the block that the chain ends in wasn't full
 pub chain-listed : (rows homes : List ℕ) (blocks : List Block) (all unfilled : List ℕ) (nodes : List Node) (last into : ℕ) → IsState rows homes blocks
-    → SpansFirst (length homes + 1) rows all → IsOpen (length all) blocks unfilled → IsChain rows homes blocks nodes last into → Has unfilled into
+    → SpansFirst (length homes + 1) rows all → AreOthersFull (length all) blocks unfilled → IsChain rows homes blocks nodes last into → Has unfilled into
 chain-listed rows homes blocks all unfilled nodes last into st sp o c =
-    listed blocks unfilled (row_of rows (node_at nodes last)) into (any-block blocks into c.room.there)
-    (others-span rows homes blocks all unfilled (row_of rows (node_at nodes last)) st (λ i l. sp i (omega arith)) o
-    (sp (node_at nodes last).place (let m : (node_at nodes last).place ≤ length homes = most last c.there in omega arith))) c.room
+    listed blocks unfilled (row_of rows (search_node nodes last)) into (any-block blocks into c.room.there)
+    (others-span rows homes blocks all unfilled (row_of rows (search_node nodes last)) st (λ i l. sp i (omega arith)) o
+    (sp (search_node nodes last).place (let m : (search_node nodes last).place ≤ length homes = most last c.there in omega arith))) c.room
   where
-    most : (k : ℕ) → k < length nodes → (node_at nodes k).place ≤ length homes
-    most zero l = let e : (node_at nodes 0).place ≡ length homes = c.tree.root in omega arith
-    most (suc k) l = let s : (node_at nodes (suc k)).place < length homes = (c.tree.each (suc k) (omega arith) l).old in omega arith
+    most : (k : ℕ) → k < length nodes → (search_node nodes k).place ≤ length homes
+    most zero l = let e : (search_node nodes 0).place ≡ length homes = c.tree.root in omega arith
+    most (suc k) l = let s : (search_node nodes (suc k)).place < length homes = (c.tree.each (suc k) (omega arith) l).old in omega arith
 
 -- ---- how often a place stands in the blocks
 abbrev pub lists_of : List Block → List (List ℕ)
 lists_of blocks = map (λ b. b.places.items) blocks
 
-pub times-none : (blocks : List Block) (i : ℕ) → ((k : ℕ) → Has (places_at blocks k) i → ⊥) → times i (lists_of blocks) ≡ 0
+pub times-none : (blocks : List Block) (i : ℕ) → ((k : ℕ) → Has (places_at blocks k) i → ⊥) → occurrences i (lists_of blocks) ≡ 0
 times-none [] i n = refl
 times-none (b ∷ blocks) i n =
     let a : count_of i b.places.items ≡ 0 = count_of-none i b.places.items (n 0) in
-    let c : times i (lists_of blocks) ≡ 0 = times-none blocks i (λ k. n (suc k)) in
+    let c : occurrences i (lists_of blocks) ≡ 0 = times-none blocks i (λ k. n (suc k)) in
     omega arith
 
 pub times-one : (blocks : List Block) (h i : ℕ) → h < length blocks → Has (places_at blocks h) i → ((k : ℕ) → Has (places_at blocks k) i → k ≡ h)
-    → ((k : ℕ) → k < length blocks → IsAscending (places_at blocks k)) → times i (lists_of blocks) ≡ 1
+    → ((k : ℕ) → k < length blocks → IsAscending (places_at blocks k)) → occurrences i (lists_of blocks) ≡ 1
 times-one [] h i l s o a = absurd (omega arith)
 times-one (b ∷ blocks) zero i l s o a =
     let x : count_of i b.places.items ≡ 1 = count_of-one i b.places.items (a 0 (omega arith)) s in
-    let y : times i (lists_of blocks) ≡ 0 = times-none blocks i (λ k t. let e : suc k ≡ 0 = o (suc k) t in absurd (omega arith)) in
+    let y : occurrences i (lists_of blocks) ≡ 0 = times-none blocks i (λ k t. let e : suc k ≡ 0 = o (suc k) t in absurd (omega arith)) in
     omega arith
 times-one (b ∷ blocks) (suc h) i l s o a =
     let x : count_of i b.places.items ≡ 0 = count_of-none i b.places.items (λ t. let e : 0 ≡ suc h = o 0 t in absurd (omega arith)) in
-    let y : times i (lists_of blocks) ≡ 1 =
+    let y : occurrences i (lists_of blocks) ≡ 1 =
     times-one blocks h i (omega arith) s (λ k t. let e : suc k ≡ suc h = o (suc k) t in omega arith) (λ k m. a (suc k) (omega arith)) in
     omega arith
 
@@ -123,11 +123,11 @@ block-ascending : (rows homes : List ℕ) (blocks : List Block) → IsState rows
 block-ascending rows homes blocks st k l =
     subst IsAscending (sym (places_at-is blocks k (any-block blocks k l) l)) (st.block k (any-block blocks k l) l).ascending
 
-pub state-once : (rows homes : List ℕ) (blocks : List Block) → IsState rows homes blocks → (i : ℕ) → i < length homes → times i (lists_of blocks) ≡ 1
+pub state-once : (rows homes : List ℕ) (blocks : List Block) → IsState rows homes blocks → (i : ℕ) → i < length homes → occurrences i (lists_of blocks) ≡ 1
 state-once rows homes blocks st i l =
     times-one blocks (get_or homes i 0) i (st.home i l).0 (st.home i l).1 (λ k h. sym (st.only k i h).1) (block-ascending rows homes blocks st)
 
-pub state-none : (rows homes : List ℕ) (blocks : List Block) → IsState rows homes blocks → (i : ℕ) → length homes ≤ i → times i (lists_of blocks) ≡ 0
+pub state-none : (rows homes : List ℕ) (blocks : List Block) → IsState rows homes blocks → (i : ℕ) → length homes ≤ i → occurrences i (lists_of blocks) ≡ 0
 state-none rows homes blocks st i g = times-none blocks i (λ k h. let l : i < length homes = (st.only k i h).0 in absurd (omega arith))
 
 -- ---- witnesses
@@ -166,7 +166,7 @@ kept-all S [] h = refl
 kept-all S (p ∷ ps) h =
     ap (λ t. cond t (p ∷ kept S ps) (kept S ps)) (has-is_in S p (h p (inl refl))) ∙ ap (λ k. p ∷ k) (kept-all S ps (λ y t. h y (inr t)))
 
-pub at_most-from : (S : List ℕ) (lists : List (List ℕ)) → ((y : ℕ) → times y lists ≤ 1) → At_most_once S lists
+pub at_most-from : (S : List ℕ) (lists : List (List ℕ)) → ((y : ℕ) → occurrences y lists ≤ 1) → At_most_once S lists
 at_most-from [] lists h = tt
 at_most-from (s ∷ S) lists h = (h s, at_most-from S lists h)
 
@@ -191,10 +191,10 @@ witness-shown rows homes blocks S st n a w e c = record {
       (state-none rows homes blocks st (length homes) (omega arith)) (close-from (r_of rows) S blocks c));
 }
   where
-    most : (y : ℕ) → times y (lists_of blocks) ≤ 1
+    most : (y : ℕ) → occurrences y (lists_of blocks) ≤ 1
     most y = elim (cases_lt y (length homes)) [
-      | inl l ↦ let t : times y (lists_of blocks) ≡ 1 = state-once rows homes blocks st y l in omega arith
-      | inr g ↦ let t : times y (lists_of blocks) ≡ 0 = state-none rows homes blocks st y g in omega arith
+      | inl l ↦ let t : occurrences y (lists_of blocks) ≡ 1 = state-once rows homes blocks st y l in omega arith
+      | inr g ↦ let t : occurrences y (lists_of blocks) ≡ 0 = state-none rows homes blocks st y g in omega arith
     ]
 
 -- ---- ranges
@@ -246,8 +246,8 @@ none-left : (xs : List ℕ) → length xs ≡ 0 → xs ≡ []
 none-left [] e = refl
 none-left (x ∷ xs) e = absurd (omega (arith, e))
 
-pub open-none : (full : ℕ) (blocks : List Block) (unfilled : List ℕ) → length unfilled ≡ 0 → IsOpen full blocks unfilled → IsOpen full blocks []
-open-none full blocks unfilled e o = subst (λ (q : List ℕ). IsOpen full blocks q) (none-left unfilled e) o
+pub open-none : (full : ℕ) (blocks : List Block) (unfilled : List ℕ) → length unfilled ≡ 0 → AreOthersFull full blocks unfilled → AreOthersFull full blocks []
+open-none full blocks unfilled e o = subst (λ (q : List ℕ). AreOthersFull full blocks q) (none-left unfilled e) o
 
 -- ---- row after row
 pub record Underway (rows : List ℕ) (n : ℕ) (a : Arrangement) (witness : List ℕ) : Type 0 where
@@ -326,7 +326,7 @@ IsWitness-shown rows a witness shown count lists u p c l one other = elim (cases
   ])
 ]
   where
-    nowhere : (bs : List (List ℕ)) → length bs ≡ 0 → times 0 bs ≡ 1 → ⊥
+    nowhere : (bs : List (List ℕ)) → length bs ≡ 0 → occurrences 0 bs ≡ 1 → ⊥
     nowhere [] z t = absurd (omega (arith, t))
     nowhere (b ∷ bs) z t = absurd (omega (arith, z))
 
@@ -358,7 +358,7 @@ distinct-increasing xs a = distinct-ascending xs (ascending-increasing xs a)
 at_least-from : (rows : List ℕ) (other : List (List ℕ)) → IsPartition rows other → (S : List ℕ) → ((y : ℕ) → Has S y → y < length rows) → At_least_once S other
 at_least-from rows other p [] h = tt
 at_least-from rows other p (s ∷ S) h = (
-  (let t : times s other ≡ 1 = p.once s (h s (inl refl)) in omega arith),
+  (let t : occurrences s other ≡ 1 = p.once s (h s (inl refl)) in omega arith),
   at_least-from rows other p S (λ y m. h y (inr m)),
 )
 

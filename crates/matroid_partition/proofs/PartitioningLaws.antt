@@ -20,7 +20,7 @@ use Rattle.matroid_partition.specs.declared.search.Node.{Node}
 use Rattle.matroid_partition.specs.declared.witness.ReachedRows.{ReachedRows}
 use Rattle.gf2_linear.specs.Rows.{is_sum}
 use Rattle.matroid_partition.specs.Arrangements.{Arrangement, IsArranged, IsFull, IsPartitioning, rows_with}
-use Rattle.matroid_partition.specs.Blocks.{HasRoomAt, IsBlock, IsOpen, IsShown, IsState, SpansFirst, places_at}
+use Rattle.matroid_partition.specs.Blocks.{HasRoomAt, IsBlock, AreOthersFull, IsShown, IsState, SpansFirst, places_at}
 use Rattle.matroid_partition.specs.Closed.{IsClosed, IsClosedBy, places_seen, seen_by}
 use Rattle.matroid_partition.specs.Places.{Has, taken_out}
 use Rattle.matroid_partition.specs.Searches.{IsChain}
@@ -63,7 +63,7 @@ inserted-row old new v e = subst (λ (q : List ℕ). is_sum q v ≡ true) (sym e
 pub inserted-kept : (old new : List ℕ) (v : ℕ) → new ≡ old ++ v ∷ [] → (x : ℕ) → is_sum old x ≡ true → is_sum new x ≡ true
 inserted-kept old new v e x h = subst (λ (q : List ℕ). is_sum q x ≡ true) (sym e) (Span-is_sum (old ++ v ∷ []) x (Span-behind old v x (is_sum-spanned old x h)))
 
-pub widened-kept : (a : Arrangement) (unfilled more new : List ℕ) → IsPartitioning a unfilled → IsOpen (length more) a.blocks new → ((x : ℕ) → is_sum a.all x ≡ true → is_sum more x ≡ true)
+pub widened-kept : (a : Arrangement) (unfilled more new : List ℕ) → IsPartitioning a unfilled → AreOthersFull (length more) a.blocks new → ((x : ℕ) → is_sum a.all x ≡ true → is_sum more x ≡ true)
     → IsPartitioning (record { rows = a.rows; homes = a.homes; blocks = a.blocks; all = more }) new
 widened-kept a unfilled more new p o k = record {
   arranged = record {

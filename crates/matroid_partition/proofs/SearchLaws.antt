@@ -24,7 +24,7 @@ use Rattle.matroid_partition.specs.declared.search.Front.{Front}
 use Rattle.matroid_partition.specs.declared.search.Node.{Node}
 use Rattle.matroid_partition.specs.Places.{Has, IsAscending}
 use Rattle.matroid_partition.specs.Blocks.{HasRoomAt, IsState, places_at}
-use Rattle.matroid_partition.specs.Searches.{parts, node_at, row_of, home_of, sum_of, IsOwn, IsReached, IsTree, IsSeen, trues, IsThrough, IsFront, IsGrown, IsStart, IsMember, IsSet, IsChain}
+use Rattle.matroid_partition.specs.Searches.{parts, search_node, row_of, home_of, summing_places, IsOwn, IsFoundBy, IsSearchTree, IsSeen, trues, IsThrough, IsFront, IsGrown, IsStart, IsMember, IsSet, IsChain}
 use Rattle.gf2_linear.specs.Rows.{combined, is_sum, row_sum, rows_at}
 use Rattle.gf2_linear.proofs.Xor.{xor_again}
 use Rattle.gf2_linear.proofs.Spans.{Span, Free, Span-same, Span-add}
@@ -202,15 +202,15 @@ front-start rows homes blocks nodes seen st =
       here = λ c l. absurd (omega arith);
     }))
   where
-    only : (k : ℕ) → k < 1 → IsSeen (replicate (length homes) false ++ true ∷ []) (node_at (record { place = length homes; parent = 0 } ∷ []) k).place
+    only : (k : ℕ) → k < 1 → IsSeen (replicate (length homes) false ++ true ∷ []) (search_node (record { place = length homes; parent = 0 } ∷ []) k).place
     only zero l = get_or_push (replicate (length homes) false) true false (length homes) (length-replicate (length homes) false)
     only (suc k) l = absurd (omega arith)
 
 -- ---- one row more
-node-old : (nodes : List Node) (n : Node) (k : ℕ) → k < length nodes → node_at (nodes ++ n ∷ []) k ≡ node_at nodes k
+node-old : (nodes : List Node) (n : Node) (k : ℕ) → k < length nodes → search_node (nodes ++ n ∷ []) k ≡ search_node nodes k
 node-old nodes n k l = get_or_append_left nodes (n ∷ []) (record { place = 0; parent = 0 }) k l
 
-node-new : (nodes : List Node) (n : Node) → node_at (nodes ++ n ∷ []) (length nodes) ≡ n
+node-new : (nodes : List Node) (n : Node) → search_node (nodes ++ n ∷ []) (length nodes) ≡ n
 node-new nodes n = get_or_push nodes n (record { place = 0; parent = 0 }) (length nodes) refl
 
 through-kept : (rows homes : List ℕ) (blocks : List Block) (before after : List Bool) (n : Node) (c : ℕ) → ((p : ℕ) → IsSeen before p → IsSeen after p)
@@ -224,21 +224,21 @@ pub member-old : (rows homes : List ℕ) (blocks : List Block) (n : Node) (numbe
 member-old rows homes blocks n number place st m = (st.only number place (Has-parts rows (places_at blocks number) (row_of rows n) place m.stands)).0
 
 pub tree-grown : (rows homes : List ℕ) (blocks : List Block) (nodes : List Node) (seen : List Bool) (node place : ℕ) → IsState rows homes blocks → node < length nodes
-    → IsFront rows homes blocks nodes seen node (get_or homes place 0) → IsMember rows homes blocks (node_at nodes node) (get_or homes place 0) place
-    → get_or seen place false ≡ false → IsTree rows homes blocks (nodes ++ record { place = place; parent = node } ∷ [])
+    → IsFront rows homes blocks nodes seen node (get_or homes place 0) → IsMember rows homes blocks (search_node nodes node) (get_or homes place 0) place
+    → get_or seen place false ≡ false → IsSearchTree rows homes blocks (nodes ++ record { place = place; parent = node } ∷ [])
 tree-grown rows homes blocks nodes seen node place st there fr m unseen = record {
   some = omega (arith, length-append nodes (new ∷ []));
   root = ap (λ (n : Node). n.place) (node-old nodes new 0 fr.tree.some) ∙ fr.tree.root;
   each = λ k h l. elim (cases_lt k (length nodes)) [
-    | inl s ↦ subst (λ (n : Node). IsReached rows homes blocks k n (node_at (nodes ++ new ∷ []) n.parent)) (sym (node-old nodes new k s))
-        (subst (λ (q : Node). IsReached rows homes blocks k (node_at nodes k) q) (sym (node-old nodes new (node_at nodes k).parent (parent-there k h s)))
+    | inl s ↦ subst (λ (n : Node). IsFoundBy rows homes blocks k n (search_node (nodes ++ new ∷ []) n.parent)) (sym (node-old nodes new k s))
+        (subst (λ (q : Node). IsFoundBy rows homes blocks k (search_node nodes k) q) (sym (node-old nodes new (search_node nodes k).parent (parent-there k h s)))
         (fr.tree.each k h s))
     | inr g ↦ let e : length nodes ≡ k = omega (arith, length-append nodes (new ∷ [])) in
-        subst (λ (j : ℕ). IsReached rows homes blocks j (node_at (nodes ++ new ∷ []) j) (node_at (nodes ++ new ∷ []) (node_at (nodes ++ new ∷ []) j).parent)) e
-        (subst (λ (n : Node). IsReached rows homes blocks (length nodes) n (node_at (nodes ++ new ∷ []) n.parent)) (sym (node-new nodes new))
-        (subst (λ (q : Node). IsReached rows homes blocks (length nodes) new q) (sym (node-old nodes new node there)) (record {
+        subst (λ (j : ℕ). IsFoundBy rows homes blocks j (search_node (nodes ++ new ∷ []) j) (search_node (nodes ++ new ∷ []) (search_node (nodes ++ new ∷ []) j).parent)) e
+        (subst (λ (n : Node). IsFoundBy rows homes blocks (length nodes) n (search_node (nodes ++ new ∷ []) n.parent)) (sym (node-new nodes new))
+        (subst (λ (q : Node). IsFoundBy rows homes blocks (length nodes) new q) (sym (node-old nodes new node there)) (record {
           earlier = there;
-          old = member-old rows homes blocks (node_at nodes node) (get_or homes place 0) place st m;
+          old = member-old rows homes blocks (search_node nodes node) (get_or homes place 0) place st m;
           stands = m.stands;
           told = m.told;
           apart = m.apart;
@@ -246,20 +246,20 @@ tree-grown rows homes blocks nodes seen node place st there fr m unseen = record
   ];
   order = λ k j h l g i s. elim (cases_lt k (length nodes)) [
     | inl kl ↦ elim (cases_lt j (length nodes)) [
-      | inl jl ↦ subst (λ (n : Node). n.parent ≤ (node_at (nodes ++ new ∷ []) k).parent) (sym (node-old nodes new j jl))
-          (subst (λ (n : Node). (node_at nodes j).parent ≤ n.parent) (sym (node-old nodes new k kl))
-          (fr.tree.order k j h kl g jl (subst (λ (n : Node). Has (sum_of rows homes blocks (node_at nodes k) (node_at nodes (node_at nodes k).parent)) n.place) (node-old nodes new j jl) (back k h kl j s))))
+      | inl jl ↦ subst (λ (n : Node). n.parent ≤ (search_node (nodes ++ new ∷ []) k).parent) (sym (node-old nodes new j jl))
+          (subst (λ (n : Node). (search_node nodes j).parent ≤ n.parent) (sym (node-old nodes new k kl))
+          (fr.tree.order k j h kl g jl (subst (λ (n : Node). Has (summing_places rows homes blocks (search_node nodes k) (search_node nodes (search_node nodes k).parent)) n.place) (node-old nodes new j jl) (back k h kl j s))))
       | inr jg ↦ let e : j ≡ length nodes = omega (arith, length-append nodes (new ∷ [])) in
-          subst (λ (n : Node). n.parent ≤ (node_at (nodes ++ new ∷ []) k).parent) (sym (ap (node_at (nodes ++ new ∷ [])) e ∙ node-new nodes new))
+          subst (λ (n : Node). n.parent ≤ (search_node (nodes ++ new ∷ []) k).parent) (sym (ap (search_node (nodes ++ new ∷ [])) e ∙ node-new nodes new))
           (subst (λ (n : Node). node ≤ n.parent) (sym (node-old nodes new k kl))
-          (late k h kl (subst (λ (n : Node). Has (sum_of rows homes blocks (node_at nodes k) (node_at nodes (node_at nodes k).parent)) n.place) (ap (node_at (nodes ++ new ∷ [])) e ∙ node-new nodes new) (back k h kl j s))))
+          (late k h kl (subst (λ (n : Node). Has (summing_places rows homes blocks (search_node nodes k) (search_node nodes (search_node nodes k).parent)) n.place) (ap (search_node (nodes ++ new ∷ [])) e ∙ node-new nodes new) (back k h kl j s))))
     ]
     | inr kg ↦ let e : k ≡ length nodes = omega (arith, length-append nodes (new ∷ [])) in
-        subst (λ (n : Node). (node_at (nodes ++ new ∷ []) j).parent ≤ n.parent) (sym (ap (node_at (nodes ++ new ∷ [])) e ∙ node-new nodes new))
+        subst (λ (n : Node). (search_node (nodes ++ new ∷ []) j).parent ≤ n.parent) (sym (ap (search_node (nodes ++ new ∷ [])) e ∙ node-new nodes new))
         (elim (cases_lt j (length nodes)) [
           | inl jl ↦ subst (λ (n : Node). n.parent ≤ node) (sym (node-old nodes new j jl)) (fr.latest j g jl)
           | inr jg ↦ let f : j ≡ length nodes = omega (arith, length-append nodes (new ∷ [])) in
-              subst (λ (n : Node). n.parent ≤ node) (sym (ap (node_at (nodes ++ new ∷ [])) f ∙ node-new nodes new)) (omega arith)
+              subst (λ (n : Node). n.parent ≤ node) (sym (ap (search_node (nodes ++ new ∷ [])) f ∙ node-new nodes new)) (omega arith)
         ])
   ];
 }
@@ -267,20 +267,20 @@ tree-grown rows homes blocks nodes seen node place st there fr m unseen = record
     new : Node
     new = record { place = place; parent = node }
 
-    parent-there : (k : ℕ) → 0 < k → k < length nodes → (node_at nodes k).parent < length nodes
-    parent-there k h l = let e : (node_at nodes k).parent < k = (fr.tree.each k h l).earlier in omega arith
+    parent-there : (k : ℕ) → 0 < k → k < length nodes → (search_node nodes k).parent < length nodes
+    parent-there k h l = let e : (search_node nodes k).parent < k = (fr.tree.each k h l).earlier in omega arith
 
     back : (k : ℕ) → 0 < k → k < length nodes → (j : ℕ)
-        → Has (sum_of rows homes blocks (node_at (nodes ++ new ∷ []) k) (node_at (nodes ++ new ∷ []) (node_at (nodes ++ new ∷ []) k).parent)) (node_at (nodes ++ new ∷ []) j).place
-        → Has (sum_of rows homes blocks (node_at nodes k) (node_at nodes (node_at nodes k).parent)) (node_at (nodes ++ new ∷ []) j).place
+        → Has (summing_places rows homes blocks (search_node (nodes ++ new ∷ []) k) (search_node (nodes ++ new ∷ []) (search_node (nodes ++ new ∷ []) k).parent)) (search_node (nodes ++ new ∷ []) j).place
+        → Has (summing_places rows homes blocks (search_node nodes k) (search_node nodes (search_node nodes k).parent)) (search_node (nodes ++ new ∷ []) j).place
     back k h l j s =
-        subst (λ (q : Node). Has (sum_of rows homes blocks (node_at nodes k) q) (node_at (nodes ++ new ∷ []) j).place) (node-old nodes new (node_at nodes k).parent (parent-there k h l))
-        (subst (λ (n : Node). Has (sum_of rows homes blocks n (node_at (nodes ++ new ∷ []) n.parent)) (node_at (nodes ++ new ∷ []) j).place) (node-old nodes new k l) s)
+        subst (λ (q : Node). Has (summing_places rows homes blocks (search_node nodes k) q) (search_node (nodes ++ new ∷ []) j).place) (node-old nodes new (search_node nodes k).parent (parent-there k h l))
+        (subst (λ (n : Node). Has (summing_places rows homes blocks n (search_node (nodes ++ new ∷ []) n.parent)) (search_node (nodes ++ new ∷ []) j).place) (node-old nodes new k l) s)
 
     -- an unseen place isn't in the sum of an earlier node, since that one went through all blocks
-    late : (k : ℕ) → 0 < k → k < length nodes → Has (sum_of rows homes blocks (node_at nodes k) (node_at nodes (node_at nodes k).parent)) place → node ≤ (node_at nodes k).parent
-    late k h l s = elim (cases_lt (node_at nodes k).parent node) [
-      | inl e ↦ elim (fr.before (node_at nodes k).parent (home_of homes (node_at nodes k)) e (st.home (node_at nodes k).place (fr.tree.each k h l).old).0) [
+    late : (k : ℕ) → 0 < k → k < length nodes → Has (summing_places rows homes blocks (search_node nodes k) (search_node nodes (search_node nodes k).parent)) place → node ≤ (search_node nodes k).parent
+    late k h l s = elim (cases_lt (search_node nodes k).parent node) [
+      | inl e ↦ elim (fr.before (search_node nodes k).parent (home_of homes (search_node nodes k)) e (st.home (search_node nodes k).place (fr.tree.each k h l).old).0) [
         | inl o ↦ absurd ((fr.tree.each k h l).apart o)
         | inr t ↦ absurd (both_ways (get_or seen place false) unseen (t.reached place s))
       ]
@@ -288,42 +288,42 @@ tree-grown rows homes blocks nodes seen node place st there fr m unseen = record
     ]
 
 pub front-grown : (rows homes : List ℕ) (blocks : List Block) (nodes : List Node) (seen : List Bool) (node place : ℕ) → IsState rows homes blocks → node < length nodes
-    → IsFront rows homes blocks nodes seen node (get_or homes place 0) → IsMember rows homes blocks (node_at nodes node) (get_or homes place 0) place
+    → IsFront rows homes blocks nodes seen node (get_or homes place 0) → IsMember rows homes blocks (search_node nodes node) (get_or homes place 0) place
     → get_or seen place false ≡ false → IsFront rows homes blocks (nodes ++ record { place = place; parent = node } ∷ []) (set seen place true) node (get_or homes place 0)
 front-grown rows homes blocks nodes seen node place st there fr m unseen = record {
   tree = tree-grown rows homes blocks nodes seen node place st there fr m unseen;
   long = length-set seen place true ∙ fr.long;
   count = trues-set seen place within unseen ∙ ap (λ k. k + 1) fr.count ∙ sym (length-append nodes (new ∷ []));
   marked = λ k l. elim (cases_lt k (length nodes)) [
-    | inl s ↦ subst (λ (n : Node). IsSeen (set seen place true) n.place) (sym (node-old nodes new k s)) (seen-kept seen place (node_at nodes k).place within (fr.marked k s))
+    | inl s ↦ subst (λ (n : Node). IsSeen (set seen place true) n.place) (sym (node-old nodes new k s)) (seen-kept seen place (search_node nodes k).place within (fr.marked k s))
     | inr g ↦ let e : k ≡ length nodes = omega (arith, length-append nodes (new ∷ [])) in
-        subst (λ (n : Node). IsSeen (set seen place true) n.place) (sym (ap (node_at (nodes ++ new ∷ [])) e ∙ node-new nodes new)) (get_or-set_same seen place true false within)
+        subst (λ (n : Node). IsSeen (set seen place true) n.place) (sym (ap (search_node (nodes ++ new ∷ [])) e ∙ node-new nodes new)) (get_or-set_same seen place true false within)
   ];
   known = λ p h. elim (cases_eq p place) [
     | inl e ↦ (length nodes, omega (arith, length-append nodes (new ∷ [])), ap (λ (n : Node). n.place) (node-new nodes new) ∙ sym e)
-    | inr n ↦ let r : (k : ℕ) × (k < length nodes) × ((node_at nodes k).place ≡ p) = fr.known p (sym (get_or-set_other seen place p true false n) ∙ h) in
+    | inr n ↦ let r : (k : ℕ) × (k < length nodes) × ((search_node nodes k).place ≡ p) = fr.known p (sym (get_or-set_other seen place p true false n) ∙ h) in
         let l : r.0 < length nodes = r.1 in
         (r.0, omega (arith, length-append nodes (new ∷ [])), ap (λ (n : Node). n.place) (node-old nodes new r.0 l) ∙ r.2)
   ];
   latest = λ k h l. elim (cases_lt k (length nodes)) [
     | inl s ↦ subst (λ (n : Node). n.parent ≤ node) (sym (node-old nodes new k s)) (fr.latest k h s)
     | inr g ↦ let e : k ≡ length nodes = omega (arith, length-append nodes (new ∷ [])) in
-        subst (λ (n : Node). n.parent ≤ node) (sym (ap (node_at (nodes ++ new ∷ [])) e ∙ node-new nodes new)) (omega arith)
+        subst (λ (n : Node). n.parent ≤ node) (sym (ap (search_node (nodes ++ new ∷ [])) e ∙ node-new nodes new)) (omega arith)
   ];
   before = λ j c l b. subst (λ (n : Node). IsThrough rows homes blocks (set seen place true) n c) (sym (node-old nodes new j (omega arith)))
-      (through-kept rows homes blocks seen (set seen place true) (node_at nodes j) c (λ p h. seen-kept seen place p within h) (fr.before j c l b));
+      (through-kept rows homes blocks seen (set seen place true) (search_node nodes j) c (λ p h. seen-kept seen place p within h) (fr.before j c l b));
   here = λ c l. subst (λ (n : Node). IsThrough rows homes blocks (set seen place true) n c) (sym (node-old nodes new node there))
-      (through-kept rows homes blocks seen (set seen place true) (node_at nodes node) c (λ p h. seen-kept seen place p within h) (fr.here c l));
+      (through-kept rows homes blocks seen (set seen place true) (search_node nodes node) c (λ p h. seen-kept seen place p within h) (fr.here c l));
 }
   where
     new : Node
     new = record { place = place; parent = node }
 
     within : place < length seen
-    within = let l : place < length homes = member-old rows homes blocks (node_at nodes node) (get_or homes place 0) place st m in omega (arith, fr.long)
+    within = let l : place < length homes = member-old rows homes blocks (search_node nodes node) (get_or homes place 0) place st m in omega (arith, fr.long)
 
 pub chain-grown : (rows homes : List ℕ) (blocks : List Block) (nodes : List Node) (seen : List Bool) (node place into : ℕ) (d : Block) → IsState rows homes blocks → node < length nodes
-    → IsFront rows homes blocks nodes seen node (get_or homes place 0) → IsMember rows homes blocks (node_at nodes node) (get_or homes place 0) place
+    → IsFront rows homes blocks nodes seen node (get_or homes place 0) → IsMember rows homes blocks (search_node nodes node) (get_or homes place 0) place
     → get_or seen place false ≡ false → HasRoomAt (get_or rows place 0) blocks into
     → IsChain rows homes blocks (nodes ++ record { place = place; parent = node } ∷ []) (length nodes) into
 chain-grown rows homes blocks nodes seen node place into d st there fr m unseen r = record {
@@ -354,7 +354,7 @@ chain-near rows homes blocks nodes place into st e m r =
     both : List Node
     both = record { place = length homes; parent = 0 } ∷ record { place = place; parent = 0 } ∷ []
 
-    each : (k : ℕ) → 0 < k → k < 2 → IsReached rows homes blocks k (node_at both k) (node_at both (node_at both k).parent)
+    each : (k : ℕ) → 0 < k → k < 2 → IsFoundBy rows homes blocks k (search_node both k) (search_node both (search_node both k).parent)
     each zero h l = absurd (omega arith)
     each (suc zero) h l = record {
       earlier = omega arith;
@@ -365,18 +365,18 @@ chain-near rows homes blocks nodes place into st e m r =
     }
     each (suc (suc k)) h l = absurd (omega arith)
 
-    parents : (k : ℕ) → (node_at both k).parent ≡ 0
+    parents : (k : ℕ) → (search_node both k).parent ≡ 0
     parents zero = refl
     parents (suc zero) = refl
     parents (suc (suc k)) = refl
 
-    order : (k j : ℕ) → 0 < k → k < 2 → 0 < j → j < 2 → Has (sum_of rows homes blocks (node_at both k) (node_at both (node_at both k).parent)) (node_at both j).place
-        → (node_at both j).parent ≤ (node_at both k).parent
+    order : (k j : ℕ) → 0 < k → k < 2 → 0 < j → j < 2 → Has (summing_places rows homes blocks (search_node both k) (search_node both (search_node both k).parent)) (search_node both j).place
+        → (search_node both j).parent ≤ (search_node both k).parent
     order k j h l g i s = omega (arith, parents k, parents j)
 
 -- ---- a block more, a node more
 pub front-through : (rows homes : List ℕ) (blocks : List Block) (nodes : List Node) (seen : List Bool) (node number : ℕ) → IsFront rows homes blocks nodes seen node number
-    → IsThrough rows homes blocks seen (node_at nodes node) number → IsFront rows homes blocks nodes seen node (number + 1)
+    → IsThrough rows homes blocks seen (search_node nodes node) number → IsFront rows homes blocks nodes seen node (number + 1)
 front-through rows homes blocks nodes seen node number fr t = record {
   tree = fr.tree;
   long = fr.long;
@@ -386,7 +386,7 @@ front-through rows homes blocks nodes seen node number fr t = record {
   latest = fr.latest;
   before = fr.before;
   here = λ c l. elim (cases_eq c number) [
-    | inl e ↦ subst (λ (k : ℕ). IsThrough rows homes blocks seen (node_at nodes node) k) (sym e) t
+    | inl e ↦ subst (λ (k : ℕ). IsThrough rows homes blocks seen (search_node nodes node) k) (sym e) t
     | inr n ↦ fr.here c (omega arith)
   ];
 }
@@ -435,16 +435,16 @@ set-told rows homes blocks n number s b v st l e f a = record {
 }
 
 -- the row of a node stands among the rows
-pub node-row : (rows homes : List ℕ) (blocks : List Block) (nodes : List Node) (k : ℕ) → IsTree rows homes blocks nodes → length homes < length rows → k < length nodes
-    → (node_at nodes k).place < length rows
+pub node-row : (rows homes : List ℕ) (blocks : List Block) (nodes : List Node) (k : ℕ) → IsSearchTree rows homes blocks nodes → length homes < length rows → k < length nodes
+    → (search_node nodes k).place < length rows
 node-row rows homes blocks nodes zero t n l = subst (λ m. m < length rows) (sym t.root) n
-node-row rows homes blocks nodes (suc k) t n l = let o : (node_at nodes (suc k)).place < length homes = (t.each (suc k) (omega arith) l).old in omega arith
+node-row rows homes blocks nodes (suc k) t n l = let o : (search_node nodes (suc k)).place < length homes = (t.each (suc k) (omega arith) l).old in omega arith
 
 -- the members of a block before the m-th are gone through
 pub record Reaching (rows homes : List ℕ) (blocks : List Block) (start : Node) (front : Front) (node number set : ℕ) (ps : List ℕ) (m : ℕ) : Type 0 where
   pub kept : IsFront rows homes blocks front.nodes.items front.seen.items node number
   pub there : node < length front.nodes.items
-  pub same : node_at front.nodes.items node ≡ start
+  pub same : search_node front.nodes.items node ≡ start
   pub part : (j : ℕ) → j < m → bit_at set j ≡ 1 → IsSeen front.seen.items (get_or ps j 0)
 
 pub reaching-in : (rows homes : List ℕ) (blocks : List Block) (start : Node) (old new : Front) (node number set : ℕ) (ps : List ℕ) (m : ℕ)

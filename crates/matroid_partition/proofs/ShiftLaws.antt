@@ -12,8 +12,8 @@ use Rattle.std.proofs.lemmas.Bool.{both_ways, eq-eqb, ne_eqb, cases_eq, false_fr
 use Rattle.matroid_partition.specs.declared.blocks.Block.{Block}
 use Rattle.matroid_partition.specs.declared.search.Node.{Node}
 use Rattle.matroid_partition.specs.Places.{Has, IsAscending, put_in, taken_out}
-use Rattle.matroid_partition.specs.Blocks.{HasRoomAt, IsState, moved, places_at}
-use Rattle.matroid_partition.specs.Searches.{node_at, row_of, home_of, sum_of, IsTree, IsReached, IsChain}
+use Rattle.matroid_partition.specs.Blocks.{HasRoomAt, IsState, moved_between, places_at}
+use Rattle.matroid_partition.specs.Searches.{search_node, row_of, home_of, summing_places, IsSearchTree, IsFoundBy, IsChain}
 use Rattle.gf2_linear.specs.Rows.{is_sum, rows_at}
 use Rattle.gf2_linear.proofs.Spans.{Span, Free}
 use Rattle.gf2_linear.proofs.Ranks.{is_sum-spanned, Span-is_sum}
@@ -28,10 +28,10 @@ r_of rows i = get_or rows i 0
 
 abbrev pub found : List ℕ → List ℕ → List Block → List Node → Found
 found rows homes blocks nodes = record {
-  place = λ k. (node_at nodes k).place;
-  parent = λ k. (node_at nodes k).parent;
-  home = λ k. home_of homes (node_at nodes k);
-  sum = λ k. sum_of rows homes blocks (node_at nodes k) (node_at nodes (node_at nodes k).parent);
+  place = λ k. (search_node nodes k).place;
+  parent = λ k. (search_node nodes k).parent;
+  home = λ k. home_of homes (search_node nodes k);
+  sum = λ k. summing_places rows homes blocks (search_node nodes k) (search_node nodes (search_node nodes k).parent);
 }
 
 block-ascending : (rows homes : List ℕ) (blocks : List Block) → IsState rows homes blocks → (k x : ℕ) → Has (places_at blocks k) x → k < length blocks → IsAscending (places_at blocks k)
@@ -41,18 +41,18 @@ block-ascending rows homes blocks st k x h l =
 home-ascending : (rows homes : List ℕ) (blocks : List Block) → IsState rows homes blocks → (x : ℕ) → x < length homes → IsAscending (places_at blocks (get_or homes x 0))
 home-ascending rows homes blocks st x l = block-ascending rows homes blocks st (get_or homes x 0) x (st.home x l).1 (st.home x l).0
 
-pub tree-found : (rows homes : List ℕ) (blocks : List Block) (nodes : List Node) → IsState rows homes blocks → IsTree rows homes blocks nodes
+pub tree-found : (rows homes : List ℕ) (blocks : List Block) (nodes : List Node) → IsState rows homes blocks → IsSearchTree rows homes blocks nodes
     → Tree (r_of rows) (places_at blocks) (length nodes) (found rows homes blocks nodes)
 tree-found rows homes blocks nodes st t = record {
-  each = λ k h l. let f : IsReached rows homes blocks k (node_at nodes k) (node_at nodes (node_at nodes k).parent) = t.each k h l in
-      let e : (node_at nodes k).parent < k = f.earlier in record {
+  each = λ k h l. let f : IsFoundBy rows homes blocks k (search_node nodes k) (search_node nodes (search_node nodes k).parent) = t.each k h l in
+      let e : (search_node nodes k).parent < k = f.earlier in record {
         earlier = f.earlier;
-        inside = parts-inside rows (places_at blocks (home_of homes (node_at nodes k))) (row_of rows (node_at nodes (node_at nodes k).parent));
-        uses = parts-uses rows (places_at blocks (home_of homes (node_at nodes k))) (row_of rows (node_at nodes (node_at nodes k).parent)) (node_at nodes k).place
-            (home-ascending rows homes blocks st (node_at nodes k).place f.old) f.stands;
+        inside = parts-inside rows (places_at blocks (home_of homes (search_node nodes k))) (row_of rows (search_node nodes (search_node nodes k).parent));
+        uses = parts-uses rows (places_at blocks (home_of homes (search_node nodes k))) (row_of rows (search_node nodes (search_node nodes k).parent)) (search_node nodes k).place
+            (home-ascending rows homes blocks st (search_node nodes k).place f.old) f.stands;
         told = f.told;
-        there = (st.home (node_at nodes k).place f.old).1;
-        apart = λ g q. f.apart ((t.each (node_at nodes k).parent g (omega arith)).old, q);
+        there = (st.home (search_node nodes k).place f.old).1;
+        apart = λ g q. f.apart ((t.each (search_node nodes k).parent g (omega arith)).old, q);
       };
   order = t.order;
 }
@@ -96,7 +96,7 @@ shifting-start rows homes blocks nodes last into st c = record {
   linked = chain-linked (r_of rows) (places_at blocks) (length nodes) (found rows homes blocks nodes) (tree-found rows homes blocks nodes st c.tree) last last (omega arith) c.there;
   apart = apart-chain (found rows homes blocks nodes) last last into (λ h e. c.apart ((c.tree.each last h c.there).old, e));
   there = c.room.there;
-  room = room-spanned rows homes blocks into (row_of rows (node_at nodes last)) (any-block blocks into c.room.there) st c.room;
+  room = room-spanned rows homes blocks into (row_of rows (search_node nodes last)) (any-block blocks into c.room.there) st c.room;
   count = refl;
   long = refl;
   sizes = λ k. refl;
@@ -120,8 +120,8 @@ pub shifting-room : (rows : List ℕ) (t : Found) (start : List Block) (first ho
     → Shifting rows t start first homes blocks end node into → HasRoomAt (get_or rows (t.place node) 0) blocks into
 shifting-room rows t start first homes blocks end node into s = spanned-room rows homes blocks into (get_or rows (t.place node) 0) s.state s.there s.room
 
-moved-lost : (B : ℕ → List ℕ) (c x h k : ℕ) → moved B c x h k ≡ lost (gained B c x) h x k
-unfolding moved gained lost
+moved-lost : (B : ℕ → List ℕ) (c x h k : ℕ) → moved_between B c x h k ≡ lost (gained B c x) h x k
+unfolding moved_between gained lost
 moved-lost B c x h k = refl
 
 -- the rest of the chain after one exchange
@@ -147,13 +147,13 @@ rest rows t B c (suc k) f (suc g) e p l = record {
 
 pub shifting-step : (rows : List ℕ) (t : Found) (start : List Block) (first homes : List ℕ) (blocks : List Block) (end node into : ℕ) (homes' : List ℕ) (blocks' : List Block)
     → Shifting rows t start first homes blocks end node into → 0 < node → t.parent node < node → IsState rows homes' blocks' → length homes' ≡ length homes → length blocks' ≡ length blocks
-    → ((k : ℕ) → places_at blocks' k ≡ moved (places_at blocks) into (t.place node) (get_or homes (t.place node) 0) k)
+    → ((k : ℕ) → places_at blocks' k ≡ moved_between (places_at blocks) into (t.place node) (get_or homes (t.place node) 0) k)
     → Shifting rows t start first homes' blocks' end (t.parent node) (get_or homes (t.place node) 0)
 shifting-step rows t start first homes blocks end node into homes' blocks' s h p st n m at =
     let k : Head rows t homes blocks s.fuel node into = head rows t start first homes blocks end node into s.fuel s.enough s.state s.linked s.apart h in
     let w : Rest rows t (places_at blocks) into node = rest rows t (places_at blocks) into node (block-free rows homes blocks s.state) s.fuel s.enough p s.linked in
     let at' : (j : ℕ) → lost (gained (places_at blocks) into (t.place node)) (t.home node) (t.place node) j ≡ places_at blocks' j =
-    λ j. sym (at j ∙ ap (λ q. moved (places_at blocks) into (t.place node) q j) k.home ∙ moved-lost (places_at blocks) into (t.place node) (t.home node) j) in
+    λ j. sym (at j ∙ ap (λ q. moved_between (places_at blocks) into (t.place node) q j) k.home ∙ moved-lost (places_at blocks) into (t.place node) (t.home node) j) in
     subst (λ (q : ℕ). Shifting rows t start first homes' blocks' end (t.parent node) q) (sym k.home) (record {
       fuel = w.fuel;
       enough = w.enough;
@@ -166,7 +166,7 @@ shifting-step rows t start first homes blocks end node into homes' blocks' s h p
       count = n ∙ s.count;
       long = m ∙ s.long;
       sizes = λ j.
-          let a : length (moved (places_at blocks) into (t.place node) (t.home node) j) + cond (nat_eq j (t.home node)) 1 0 ≡ length (places_at blocks j) + cond (nat_eq j into) 1 0 =
+          let a : length (moved_between (places_at blocks) into (t.place node) (t.home node) j) + cond (nat_eq j (t.home node)) 1 0 ≡ length (places_at blocks j) + cond (nat_eq j into) 1 0 =
           length-moved (places_at blocks) into (t.place node) (t.home node) j k.other
           (λ e. (
             subst (λ (q : ℕ). IsAscending (places_at blocks q)) (k.home ∙ sym e) (home-ascending rows homes blocks s.state (t.place node) k.old),

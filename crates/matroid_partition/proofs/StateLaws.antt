@@ -16,7 +16,7 @@ use Rattle.std.proofs.lemmas.Bool.{both_ways, eqb-true, eqb-false, eq-eqb, ne_eq
 use Rattle.std.proofs.lemmas.List.{length-append, length-set, get_or_append_left, get_or_push, get_or-set_same, get_or-set_other}
 use Rattle.matroid_partition.specs.declared.blocks.Block.{Block}
 use Rattle.matroid_partition.specs.Places.{Has, IsAscending, put_in, taken_out}
-use Rattle.matroid_partition.specs.Blocks.{HasRoomAt, IsBlock, IsState, OthersSpan, moved, places_at}
+use Rattle.matroid_partition.specs.Blocks.{HasRoomAt, IsBlock, IsState, OthersSpan, moved_between, places_at}
 use Rattle.gf2_linear.specs.Rows.{is_independent, is_sum, rows_at}
 use Rattle.gf2_linear.proofs.Spans.{Free}
 use Rattle.gf2_linear.proofs.Ranks.{Free-independent, independent-Free}
@@ -146,8 +146,8 @@ state-begun rows homes blocks b st n blk pl = record {
 
 -- ---- a move
 pub moved-at : (blocks : List Block) (c x h : ℕ) (b1 b2 : Block) → c < length blocks → h < length blocks → b1.places.items ≡ put_in x (places_at blocks c)
-    → b2.places.items ≡ taken_out x (places_at (set blocks c b1) h) → (k : ℕ) → places_at (set (set blocks c b1) h b2) k ≡ moved (places_at blocks) c x h k
-unfolding moved
+    → b2.places.items ≡ taken_out x (places_at (set blocks c b1) h) → (k : ℕ) → places_at (set (set blocks c b1) h b2) k ≡ moved_between (places_at blocks) c x h k
+unfolding moved_between
 moved-at blocks c x h b1 b2 cl hl p q k = elim (cases_eq k h) [
   | inl e ↦ ap (places_at (set (set blocks c b1) h b2)) e ∙ places_at-set_same (set blocks c b1) h b2 (subst (λ (m : ℕ). h < m) (sym (length-set blocks c b1)) hl) ∙ q
       ∙ ap (λ m. taken_out x (places_at (set blocks c b1) m)) (sym e) ∙ ap (taken_out x) (first k)
@@ -163,19 +163,19 @@ moved-at blocks c x h b1 b2 cl hl p q k = elim (cases_eq k h) [
       | inr n ↦ places_at-set_other blocks c b1 j n ∙ sym (ap (λ t. cond t (put_in x (places_at blocks j)) (places_at blocks j)) (ne_eqb j c n))
     ]
 
-moved-into : (B : ℕ → List ℕ) (c x h : ℕ) → (c ≡ h → ⊥) → Has (moved B c x h c) x
-unfolding moved
+moved-into : (B : ℕ → List ℕ) (c x h : ℕ) → (c ≡ h → ⊥) → Has (moved_between B c x h c) x
+unfolding moved_between
 moved-into B c x h n =
     subst (λ (t : Bool). Has (cond t (taken_out x (cond (nat_eq c c) (put_in x (B c)) (B c))) (cond (nat_eq c c) (put_in x (B c)) (B c))) x) (sym (ne_eqb c h n))
     (subst (λ (t : Bool). Has (cond t (put_in x (B c)) (B c)) x) (sym (eq-eqb c c refl)) (put_in-has x (B c)))
 
-moved-kept : (B : ℕ → List ℕ) (c x h k y : ℕ) → Has (B k) y → (y ≡ x → ⊥) → Has (moved B c x h k) y
-unfolding moved gained lost
+moved-kept : (B : ℕ → List ℕ) (c x h k y : ℕ) → Has (B k) y → (y ≡ x → ⊥) → Has (moved_between B c x h k) y
+unfolding moved_between gained lost
 moved-kept B c x h k y a n = Has-moved B c x h k y a n
 
 -- what stands in a block afterwards: x in the new one, the others as before
-moved-from : (B : ℕ → List ℕ) (c x h k y : ℕ) → Has (moved B c x h k) y → ((k ≡ c) × (x ≡ y) × (k ≡ h → ⊥)) ⊎ (Has (B k) y × (k ≡ h → y ≡ x → ⊥))
-unfolding moved
+moved-from : (B : ℕ → List ℕ) (c x h k y : ℕ) → Has (moved_between B c x h k) y → ((k ≡ c) × (x ≡ y) × (k ≡ h → ⊥)) ⊎ (Has (B k) y × (k ≡ h → y ≡ x → ⊥))
+unfolding moved_between
 moved-from B c x h k y a = go (nat_eq k c) (nat_eq k h) refl refl a
   where
     first : (t : Bool) → nat_eq k c ≡ t → Has (cond t (put_in x (B k)) (B k)) y → ((k ≡ c) × (x ≡ y)) ⊎ Has (B k) y
@@ -194,7 +194,7 @@ moved-from B c x h k y a = go (nat_eq k c) (nat_eq k h) refl refl a
 
 pub state-moved : (rows homes : List ℕ) (blocks : List Block) (c x : ℕ) (b1 b2 : Block) → IsState rows homes blocks → x < length homes → c < length blocks
     → (c ≡ get_or homes x 0 → ⊥) → IsBlock rows b1 → IsBlock rows b2
-    → ((k : ℕ) → places_at (set (set blocks c b1) (get_or homes x 0) b2) k ≡ moved (places_at blocks) c x (get_or homes x 0) k)
+    → ((k : ℕ) → places_at (set (set blocks c b1) (get_or homes x 0) b2) k ≡ moved_between (places_at blocks) c x (get_or homes x 0) k)
     → IsState rows (set homes x c) (set (set blocks c b1) (get_or homes x 0) b2)
 state-moved rows homes blocks c x b1 b2 st xl cl n k1 k2 at = record {
   few = subst (λ (m : ℕ). m ≤ length rows) (sym (length-set homes x c)) st.few;
@@ -213,7 +213,7 @@ state-moved rows homes blocks c x b1 b2 st xl cl n k1 k2 at = record {
     | inl e ↦ subst (λ (q : ℕ). (q < length (set (set blocks c b1) (get_or homes x 0) b2)) × Has (places_at (set (set blocks c b1) (get_or homes x 0) b2) q) i)
         (sym (ap (λ m. get_or (set homes x c) m 0) e ∙ get_or-set_same homes x c 0 xl)) (
           long c cl,
-          subst (λ (q : List ℕ). Has q i) (sym (at c)) (subst (λ (q : ℕ). Has (moved (places_at blocks) c x (get_or homes x 0) c) q) (sym e) (moved-into (places_at blocks) c x (get_or homes x 0) n)),
+          subst (λ (q : List ℕ). Has q i) (sym (at c)) (subst (λ (q : ℕ). Has (moved_between (places_at blocks) c x (get_or homes x 0) c) q) (sym e) (moved-into (places_at blocks) c x (get_or homes x 0) n)),
         )
     | inr m ↦ let h : (get_or homes i 0 < length blocks) × Has (places_at blocks (get_or homes i 0)) i = st.home i il in
         subst (λ (q : ℕ). (q < length (set (set blocks c b1) (get_or homes x 0) b2)) × Has (places_at (set (set blocks c b1) (get_or homes x 0) b2) q) i)
@@ -240,8 +240,8 @@ state-moved rows homes blocks c x b1 b2 st xl cl n k1 k2 at = record {
 
 -- sizes: one more in the new block, one fewer in the old one
 pub length-moved : (B : ℕ → List ℕ) (c x h k : ℕ) → (c ≡ h → ⊥) → (k ≡ h → IsAscending (B k) × Has (B k) x)
-    → length (moved B c x h k) + cond (nat_eq k h) 1 0 ≡ length (B k) + cond (nat_eq k c) 1 0
-unfolding moved
+    → length (moved_between B c x h k) + cond (nat_eq k h) 1 0 ≡ length (B k) + cond (nat_eq k c) 1 0
+unfolding moved_between
 length-moved B c x h k n a = go (nat_eq k c) (nat_eq k h) refl refl
   where
     go : (t u : Bool) → nat_eq k c ≡ t → nat_eq k h ≡ u

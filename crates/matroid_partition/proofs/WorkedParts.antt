@@ -1,11 +1,11 @@
 -- The definitions, computed on small rows.
 use Rattle.std.proofs.Common.{◌≡◌, true, [], ◌∷◌, refl}
 use Rattle.gf2_linear.specs.Rows.{row_sum, choices, is_dependence, is_independent, longest, rank, rows_at}
-use Rattle.matroid_partition.specs.Partitions.{times}
+use Rattle.matroid_partition.specs.Partitions.{occurrences}
 use Rattle.matroid_partition.specs.Places.{put_in, taken_out}
 
 -- the rows {0}, {1}, {2}, {0,1}, {1,2}, {0,2} in the blocks 1 2 5 and 0 3 4
-once : times 3 ((1 ∷ 2 ∷ 5 ∷ []) ∷ (0 ∷ 3 ∷ 4 ∷ []) ∷ []) ≡ 1
+once : occurrences 3 ((1 ∷ 2 ∷ 5 ∷ []) ∷ (0 ∷ 3 ∷ 4 ∷ []) ∷ []) ≡ 1
 once = refl
 
 first : is_independent (rows_at (1 ∷ 2 ∷ 4 ∷ 3 ∷ 6 ∷ 5 ∷ []) (1 ∷ 2 ∷ 5 ∷ [])) ≡ true

@@ -8,7 +8,7 @@
 --   IsWidened v o a          v is a sum of what is told of all rows, which may span more, and nothing else has changed
 use Rattle.std.specs.Prelude.{◌≡◌, ℕ, ◌+◌, List, [], ◌∷◌, ◌++◌, true, length}
 use Rattle.gf2_linear.specs.Rows.{is_sum}
-use Rattle.matroid_partition.specs.Blocks.{IsOpen, IsState, SpansFirst}
+use Rattle.matroid_partition.specs.Blocks.{AreOthersFull, IsState, SpansFirst}
 use Rattle.matroid_partition.specs.declared.blocks.Block.{Block}
 
 pub record Arrangement : Type 0 where
@@ -28,11 +28,11 @@ pub record IsArranged (a : Arrangement) : Type 0 where
 
 pub record IsPartitioning (a : Arrangement) (unfilled : List ℕ) : Type 0 where
   pub arranged : IsArranged a
-  pub rooms : IsOpen (length a.all) a.blocks unfilled
+  pub rooms : AreOthersFull (length a.all) a.blocks unfilled
 
 -- each block has as many rows as all rows have rank
 abbrev pub IsFull : Arrangement → Type 0
-IsFull a = IsOpen (length a.all) a.blocks []
+IsFull a = AreOthersFull (length a.all) a.blocks []
 
 abbrev pub rows_with : Arrangement → ℕ → List ℕ
 rows_with a v = a.rows ++ v ∷ []

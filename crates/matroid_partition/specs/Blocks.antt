@@ -4,14 +4,14 @@
 --   HasRoomAt v blocks k        v is no sum of the rows of the k-th block
 --   LastSpans v blocks unfilled    v is a sum of the rows of the last block that is listed
 --   OthersSpan blocks unfilled v   v is a sum of the rows of each block that isn't listed
---   IsOpen full blocks unfilled    each block that isn't listed has `full` rows
+--   AreOthersFull full blocks unfilled  each block that isn't listed has `full` rows
 --   places_at blocks k          the places of the k-th block
 --   IsState rows homes blocks   the first rows, each in its home and nowhere else
---   moved B c x h               the blocks B with x put into the c-th and taken out of the h-th
+--   moved_between B c x h       the blocks B with x put into the c-th and taken out of the h-th
 --   SpansFirst n rows all       the first n rows are sums of `all`
 --   shown_by w                  the places of a witness
 --   IsShown rows k w            a choice of the rows with more than k times its rank
---   values rs                   the rows behind some references
+--   referenced_rows rs          the rows behind some references
 use Rattle.std.specs.Prelude.{◌≡◌, ℕ, zero, suc, ◌*◌, ◌<◌, ◌≤◌, ◌==◌, cond, List, [], ◌∷◌, All, true, false, length, map, slice_index, slice_index_or}
 use Rattle.std.specs.Borrow.{Bor}
 use Rattle.std.specs.List.{range_with_len}
@@ -41,7 +41,7 @@ LastSpans v blocks unfilled = (j : ℕ) (d : Block) → suc j ≡ length unfille
 abbrev pub OthersSpan : List Block → List ℕ → ℕ → Type 0
 OthersSpan blocks unfilled v = (k : ℕ) (d : Block) → k < length blocks → (Has unfilled k → ⊥) → is_sum (slice_index_or blocks k d).basis v ≡ true
 
-pub record IsOpen (full : ℕ) (blocks : List Block) (unfilled : List ℕ) : Type 0 where
+pub record AreOthersFull (full : ℕ) (blocks : List Block) (unfilled : List ℕ) : Type 0 where
   pub within : All (λ k. k < length blocks) unfilled
   pub others : (k : ℕ) (d : Block) → k < length blocks → (Has unfilled k → ⊥) → length (slice_index_or blocks k d).basis ≡ full
 
@@ -56,8 +56,8 @@ pub record IsState (rows homes : List ℕ) (blocks : List Block) : Type 0 where
   pub home : (i : ℕ) → i < length homes → (slice_index homes i < length blocks) × Has (places_at blocks (slice_index homes i)) i
   pub only : (k i : ℕ) → Has (places_at blocks k) i → (i < length homes) × (slice_index homes i ≡ k)
 
-unfoldable pub moved : (ℕ → List ℕ) → ℕ → ℕ → ℕ → ℕ → List ℕ
-moved B c x h k = cond (k == h) (taken_out x (cond (k == c) (put_in x (B k)) (B k))) (cond (k == c) (put_in x (B k)) (B k))
+unfoldable pub moved_between : (ℕ → List ℕ) → ℕ → ℕ → ℕ → ℕ → List ℕ
+moved_between B c x h k = cond (k == h) (taken_out x (cond (k == c) (put_in x (B k)) (B k))) (cond (k == c) (put_in x (B k)) (B k))
 
 abbrev pub SpansFirst : ℕ → List ℕ → List ℕ → Type 0
 SpansFirst n rows all = (i : ℕ) → i < n → is_sum all (slice_index rows i) ≡ true
@@ -71,5 +71,5 @@ pub record IsShown (rows : List ℕ) (k : ℕ) (witness : List ℕ) : Type 0 whe
   pub ascending : IsStrictlyIncreasing witness
   pub more : k * rank (rows_at rows witness) < length witness
 
-abbrev pub values : List (Bor ℕ) → List ℕ
-values rs = map (λ r. r.now) rs
+abbrev pub referenced_rows : List (Bor ℕ) → List ℕ
+referenced_rows rs = map (λ r. r.now) rs

@@ -1,19 +1,19 @@
 -- Working form. Rows that are dealt out among blocks whose number is held.
 --   IsHeld rows d             the rows that have a place in a block are those at their names
 --   IsTakenIn rows place o d  one row more is held, and no block
---   IsStuck rows place d seen what was reached from a row that found no place
+--   FindsNoPlace rows place d seen what was reached from a row that found no place
 --   IsUnchanged o d           nothing has changed
 --   names_at d k              the places of the k-th block, among all rows
---   IsMarked old new names seen   the names that are seen are marked too, and no other places
---   AreMarked rows d marks    each marked row is a sum of the marked rows of each block
+--   AddsMarks old new names seen  the names that are seen are marked too, and no other places
+--   AreMarkedSpanned rows d marks  each marked row is a sum of the marked rows of each block
 --   AreRows rows d            the rows that are put by
 --   IsBack rows o d           one of the rows that were put by is held
---   IsBegun rows place o d    one row more is held, in a block of its own
+--   HasNewBlock rows place o d  one row more is held, in a block of its own
 --   IsOpened rows o d         the last of them opened a block
 --   IsDealing rows n m c d    the first n rows are held or put by, with at most m for each block put by, and c more
 --   IsShownWide rows k m w    a choice of the rows with more than k times the sum of its rank and m
 --   IsStuckAll rows o d marks   what was reached from all rows that were put by, none of which found a place
---   IsWritten old new places numbers n    the first n numbers are written at the places
+--   AreWrittenAt old new places numbers n  the first n numbers are written at the places
 --   at_home homes k           the places whose home is the k-th block
 --   IsHoused n m d homes      the homes of n rows: of those held as they are, of those put by m to a block
 use Rattle.std.specs.Prelude.{◌≡◌, ◌⊎◌, ℕ, ◌+◌, ◌*◌, ◌/◌, ◌<◌, ◌≤◌, All, Bool, true, cond, filter, nat_eq, nat_lt, List, [], ◌∷◌, ◌++◌, length, map, remove, slice_index}
@@ -43,21 +43,21 @@ pub record IsUnchanged (o d : Dealing) : Type 0 where
   pub names : d.names.items ≡ o.names.items
   pub over : d.over.items ≡ o.over.items
 
-pub record IsStuck (rows : List ℕ) (place : ℕ) (o d : Dealing) (seen : List Bool) : Type 0 where
+pub record FindsNoPlace (rows : List ℕ) (place : ℕ) (o d : Dealing) (seen : List Bool) : Type 0 where
   pub same : IsUnchanged o d
   pub closed : IsClosed (rows_with o.held (slice_index rows place)) o.held.homes o.held.blocks seen
 
 abbrev pub names_at : Dealing → ℕ → List ℕ
 names_at d k = map (slice_index d.names.items) (places_at d.held.blocks k)
 
-pub record IsMarked (old new : List Bool) (names : List ℕ) (seen : List Bool) : Type 0 where
+pub record AddsMarks (old new : List Bool) (names : List ℕ) (seen : List Bool) : Type 0 where
   pub long : length new ≡ length old
   pub kept : (y : ℕ) → IsSeen old y → IsSeen new y
   pub marked : (p : ℕ) → p < length names → IsSeen seen p → IsSeen new (slice_index names p)
   pub only : (y : ℕ) → IsSeen new y → IsSeen old y ⊎ ((p : ℕ) × ((p < length names) × (IsSeen seen p × (slice_index names p ≡ y))))
 
-abbrev pub AreMarked : List ℕ → Dealing → List Bool → Type 0
-AreMarked rows d marks = (k y : ℕ) → k < length d.held.blocks → IsSeen marks y → is_sum (rows_at rows (seen_among marks (names_at d k))) (slice_index rows y) ≡ true
+abbrev pub AreMarkedSpanned : List ℕ → Dealing → List Bool → Type 0
+AreMarkedSpanned rows d marks = (k y : ℕ) → k < length d.held.blocks → IsSeen marks y → is_sum (rows_at rows (seen_among marks (names_at d k))) (slice_index rows y) ≡ true
 
 pub record AreRows (rows : List ℕ) (d : Dealing) : Type 0 where
   pub below : (i : ℕ) → Has d.over.items i → i < length rows
@@ -79,9 +79,9 @@ pub record IsStuckAll (rows : List ℕ) (o d : Dealing) (marks : List Bool) : Ty
   pub same : IsUnchanged o d
   pub long : length marks ≡ length rows
   pub over : (i : ℕ) → Has o.over.items i → IsSeen marks i
-  pub closed : AreMarked rows o marks
+  pub closed : AreMarkedSpanned rows o marks
 
-pub record IsBegun (rows : List ℕ) (place : ℕ) (o d : Dealing) : Type 0 where
+pub record HasNewBlock (rows : List ℕ) (place : ℕ) (o d : Dealing) : Type 0 where
   pub held : IsHeld rows d
   pub names : d.names.items ≡ o.names.items ++ place ∷ []
   pub over : d.over.items ≡ o.over.items
@@ -108,7 +108,7 @@ pub record IsShownWide (rows : List ℕ) (k m : ℕ) (witness : List ℕ) : Type
   pub ascending : IsStrictlyIncreasing witness
   pub more : k * (rank (rows_at rows witness) + m) < length witness
 
-pub record IsWritten (old new places numbers : List ℕ) (n : ℕ) : Type 0 where
+pub record AreWrittenAt (old new places numbers : List ℕ) (n : ℕ) : Type 0 where
   pub long : length new ≡ length old
   pub there : (j : ℕ) → j < n → slice_index new (slice_index places j) ≡ slice_index numbers j
   pub others : (y : ℕ) → (Has places y → ⊥) → slice_index new y ≡ slice_index old y

@@ -1,5 +1,5 @@
 -- Partitions of rows into independent blocks. A block is the list of the places of its rows.
---   times i blocks             how often the place i stands in the blocks
+--   occurrences i blocks       how often the place i stands in the blocks
 --   IsPartition rows blocks    each row stands in exactly one block, and the blocks are independent
 --   blocks_of parts            the places of each block
 --   IsWitness rows blocks w    a choice of the rows with more than (blocks - 1) times its rank
@@ -9,12 +9,12 @@ use Rattle.matroid_partition.specs.declared.parts.Parts.{Parts}
 use Rattle.gf2_linear.specs.Rows.{is_independent, rank, rows_at}
 use Rattle.gf2_linear.specs.Wide.{count_of}
 
-abbrev pub times : ℕ → List (List ℕ) → ℕ
-times i [] = 0
-times i (b ∷ blocks) = count_of i b + times i blocks
+abbrev pub occurrences : ℕ → List (List ℕ) → ℕ
+occurrences i [] = 0
+occurrences i (b ∷ blocks) = count_of i b + occurrences i blocks
 
 pub record IsPartition (rows : List ℕ) (blocks : List (List ℕ)) : Type 0 where
-  pub once : (i : ℕ) → i < length rows → times i blocks ≡ 1
+  pub once : (i : ℕ) → i < length rows → occurrences i blocks ≡ 1
   pub within : All (λ b. All (λ i. i < length rows) b) blocks
   pub independent : All (λ b. IsTrue (is_independent (rows_at rows b))) blocks
 

@@ -1,11 +1,11 @@
 -- Working form. What a breadth-first search has reached.
 --   parts rows places v       the places whose rows sum to v
---   node_at nodes k           the k-th node
+--   search_node nodes k       the k-th node
 --   row_of, home_of n         the row of a node, the block that has it
---   sum_of n q                the places of n's block that sum to the row of q
+--   summing_places n q        the places of n's block that sum to the row of q
 --   IsOwn n c                 the row of n stands in the block c
---   IsReached k n q           the k-th node n was found by an earlier one q, in whose row's sum it stands, from another block
---   IsTree nodes              each node but the first, the new row, is reached; a place that stands in a node's sum was found
+--   IsFoundBy k n q           the k-th node n was found by an earlier one q, in whose row's sum it stands, from another block
+--   IsSearchTree nodes        each node but the first, the new row, is reached; a place that stands in a node's sum was found
 --                             by the same node or an earlier one
 --   IsSeen, trues             a place is seen; how many are
 --   IsSpread v c              v is a sum of rows of the block c, all of them seen
@@ -34,8 +34,8 @@ parts rows [] v = []
 parts rows (p ∷ places) v =
     cond (is_sum (map (slice_index rows) places) v) (parts rows places v) (p ∷ parts rows places (bit_xor (slice_index rows p) v))
 
-abbrev pub node_at : List Node → ℕ → Node
-node_at nodes k = slice_index_or nodes k (record { place = 0; parent = 0 })
+abbrev pub search_node : List Node → ℕ → Node
+search_node nodes k = slice_index_or nodes k (record { place = 0; parent = 0 })
 
 -- the row of a node, and the block that has it
 abbrev pub row_of : List ℕ → Node → ℕ
@@ -44,26 +44,26 @@ row_of rows n = slice_index rows n.place
 abbrev pub home_of : List ℕ → Node → ℕ
 home_of homes n = slice_index homes n.place
 
-abbrev pub sum_of : List ℕ → List ℕ → List Block → Node → Node → List ℕ
-sum_of rows homes blocks n q = parts rows (places_at blocks (home_of homes n)) (row_of rows q)
+abbrev pub summing_places : List ℕ → List ℕ → List Block → Node → Node → List ℕ
+summing_places rows homes blocks n q = parts rows (places_at blocks (home_of homes n)) (row_of rows q)
 
 abbrev pub IsOwn : List ℕ → Node → ℕ → Type 0
 IsOwn homes n c = (n.place < length homes) × (home_of homes n ≡ c)
 
-pub record IsReached (rows homes : List ℕ) (blocks : List Block) (k : ℕ) (n q : Node) : Type 0 where
+pub record IsFoundBy (rows homes : List ℕ) (blocks : List Block) (k : ℕ) (n q : Node) : Type 0 where
   pub earlier : n.parent < k
   pub old : n.place < length homes
-  pub stands : Has (sum_of rows homes blocks n q) n.place
-  pub told : row_sum (map (slice_index rows) (sum_of rows homes blocks n q)) ≡ row_of rows q
+  pub stands : Has (summing_places rows homes blocks n q) n.place
+  pub told : row_sum (map (slice_index rows) (summing_places rows homes blocks n q)) ≡ row_of rows q
   pub apart : IsOwn homes q (home_of homes n) → ⊥
 
-pub record IsTree (rows homes : List ℕ) (blocks : List Block) (nodes : List Node) : Type 0 where
+pub record IsSearchTree (rows homes : List ℕ) (blocks : List Block) (nodes : List Node) : Type 0 where
   pub some : 0 < length nodes
-  pub root : (node_at nodes 0).place ≡ length homes
-  pub each : (k : ℕ) → 0 < k → k < length nodes → IsReached rows homes blocks k (node_at nodes k) (node_at nodes (node_at nodes k).parent)
+  pub root : (search_node nodes 0).place ≡ length homes
+  pub each : (k : ℕ) → 0 < k → k < length nodes → IsFoundBy rows homes blocks k (search_node nodes k) (search_node nodes (search_node nodes k).parent)
   pub order : (k m : ℕ) → 0 < k → k < length nodes → 0 < m → m < length nodes
-      → Has (sum_of rows homes blocks (node_at nodes k) (node_at nodes (node_at nodes k).parent)) (node_at nodes m).place
-      → (node_at nodes m).parent ≤ (node_at nodes k).parent
+      → Has (summing_places rows homes blocks (search_node nodes k) (search_node nodes (search_node nodes k).parent)) (search_node nodes m).place
+      → (search_node nodes m).parent ≤ (search_node nodes k).parent
 
 abbrev pub IsSeen : List Bool → ℕ → Type 0
 IsSeen seen p = slice_index_or seen p false ≡ true
@@ -80,18 +80,18 @@ abbrev pub IsThrough : List ℕ → List ℕ → List Block → List Bool → No
 IsThrough rows homes blocks seen n c = IsOwn homes n c ⊎ IsSpread rows blocks seen (row_of rows n) c
 
 pub record IsFront (rows homes : List ℕ) (blocks : List Block) (nodes : List Node) (seen : List Bool) (node number : ℕ) : Type 0 where
-  pub tree : IsTree rows homes blocks nodes
+  pub tree : IsSearchTree rows homes blocks nodes
   pub long : length seen ≡ length homes + 1
   pub count : trues seen ≡ length nodes
-  pub marked : (k : ℕ) → k < length nodes → IsSeen seen (node_at nodes k).place
-  pub known : (p : ℕ) → IsSeen seen p → (k : ℕ) × (k < length nodes) × ((node_at nodes k).place ≡ p)
-  pub latest : (k : ℕ) → 0 < k → k < length nodes → (node_at nodes k).parent ≤ node
-  pub before : (j c : ℕ) → j < node → c < length blocks → IsThrough rows homes blocks seen (node_at nodes j) c
-  pub here : (c : ℕ) → c < number → IsThrough rows homes blocks seen (node_at nodes node) c
+  pub marked : (k : ℕ) → k < length nodes → IsSeen seen (search_node nodes k).place
+  pub known : (p : ℕ) → IsSeen seen p → (k : ℕ) × (k < length nodes) × ((search_node nodes k).place ≡ p)
+  pub latest : (k : ℕ) → 0 < k → k < length nodes → (search_node nodes k).parent ≤ node
+  pub before : (j c : ℕ) → j < node → c < length blocks → IsThrough rows homes blocks seen (search_node nodes j) c
+  pub here : (c : ℕ) → c < number → IsThrough rows homes blocks seen (search_node nodes node) c
 
 pub record IsGrown (old new : List Node) (before after : List Bool) : Type 0 where
   pub more : length old ≤ length new
-  pub same : (k : ℕ) → k < length old → node_at new k ≡ node_at old k
+  pub same : (k : ℕ) → k < length old → search_node new k ≡ search_node old k
   pub kept : (p : ℕ) → IsSeen before p → IsSeen after p
 
 abbrev pub IsRoot : ℕ → List Node → Type 0
@@ -111,10 +111,10 @@ pub record IsSet (rows homes : List ℕ) (blocks : List Block) (n : Node) (numbe
   pub apart : IsOwn homes n number → ⊥
 
 pub record IsChain (rows homes : List ℕ) (blocks : List Block) (nodes : List Node) (last into : ℕ) : Type 0 where
-  pub tree : IsTree rows homes blocks nodes
+  pub tree : IsSearchTree rows homes blocks nodes
   pub there : last < length nodes
-  pub apart : IsOwn homes (node_at nodes last) into → ⊥
-  pub room : HasRoomAt (row_of rows (node_at nodes last)) blocks into
+  pub apart : IsOwn homes (search_node nodes last) into → ⊥
+  pub room : HasRoomAt (row_of rows (search_node nodes last)) blocks into
 
 -- the same of rows that have come in, and a new one behind them
 abbrev pub IsFrontOf : Arrangement → ℕ → Front → ℕ → ℕ → Type 0

@@ -3,7 +3,7 @@
 ghost use Rattle.std.specs.Prelude.{◌≡◌, ℕ, ◌<◌, All, IfOk, IfSome, IfNone, IsTrue, length};
 ghost use Rattle.gf2_linear.specs.Rows.{is_independent, rows_at};
 ghost use Rattle.matroid_partition.specs.Places.{Has, IsAscending, put_in, taken_out};
-ghost use Rattle.matroid_partition.specs.Blocks.{HasRoom, HasRoomAt, IsBlock, LastSpans, values};
+ghost use Rattle.matroid_partition.specs.Blocks.{HasRoom, HasRoomAt, IsBlock, LastSpans, referenced_rows};
 
 use gf2_linear::{Basis, Row};
 use std::alloc::{AllocError, Global};
@@ -19,9 +19,9 @@ pub struct Block {
 pub fn block_of(alloc: Global, rows: &[&Row], places: Vec<usize>) -> Result<Block, AllocError>
     requires within { All (λ i. i < length rows.now) places.items }
     requires ascending { IsAscending places.items }
-    requires independent { IsTrue (is_independent (rows_at (values rows.now) places.items)) }
+    requires independent { IsTrue (is_independent (rows_at (referenced_rows rows.now) places.items)) }
     ensures same { IfOk result (λ b. b.places.items ≡ places.items) }
-    ensures block { IfOk result (λ b. IsBlock (values rows.now) b) }
+    ensures block { IfOk result (λ b. IsBlock (referenced_rows rows.now) b) }
 {
     let mut basis = Basis::new(alloc);
     'places: for place in &places {
@@ -33,11 +33,11 @@ pub fn block_of(alloc: Global, rows: &[&Row], places: Vec<usize>) -> Result<Bloc
 /// Puts a place behind all others into a block that has room for its row.
 pub fn append(rows: &[&Row], block: &mut Block, place: usize) -> Result<(), AllocError>
     requires within { place < length rows.now }
-    requires block { IsBlock (values rows.now) block.old }
-    requires room { HasRoom (values rows.now) block.old place }
+    requires block { IsBlock (referenced_rows rows.now) block.old }
+    requires room { HasRoom (referenced_rows rows.now) block.old place }
     requires behind { (i : ℕ) → Has block.old.places.items i → i < place }
     ensures places { IfOk result (λ _. block.new.places.items ≡ put_in place block.old.places.items) }
-    ensures block { IfOk result (λ _. IsBlock (values rows.now) block.new) }
+    ensures block { IfOk result (λ _. IsBlock (referenced_rows rows.now) block.new) }
 {
     let _is_new = block.basis.insert(rows[place])?;
     block.places.push(place)?;
@@ -47,10 +47,10 @@ pub fn append(rows: &[&Row], block: &mut Block, place: usize) -> Result<(), Allo
 /// Puts a place into a block that has room for its row.
 pub fn put(alloc: Global, rows: &[&Row], block: &mut Block, place: usize) -> Result<(), AllocError>
     requires within { place < length rows.now }
-    requires block { IsBlock (values rows.now) block.old }
-    requires room { HasRoom (values rows.now) block.old place }
+    requires block { IsBlock (referenced_rows rows.now) block.old }
+    requires room { HasRoom (referenced_rows rows.now) block.old place }
     ensures places { IfOk result (λ _. block.new.places.items ≡ put_in place block.old.places.items) }
-    ensures block { IfOk result (λ _. IsBlock (values rows.now) block.new) }
+    ensures block { IfOk result (λ _. IsBlock (referenced_rows rows.now) block.new) }
 {
     let places = with(alloc, &block.places, place)?;
     *block = block_of(alloc, rows, places)?;
@@ -59,9 +59,9 @@ pub fn put(alloc: Global, rows: &[&Row], block: &mut Block, place: usize) -> Res
 
 /// Takes a place out of a block.
 pub fn take(alloc: Global, rows: &[&Row], block: &mut Block, place: usize) -> Result<(), AllocError>
-    requires block { IsBlock (values rows.now) block.old }
+    requires block { IsBlock (referenced_rows rows.now) block.old }
     ensures places { IfOk result (λ _. block.new.places.items ≡ taken_out place block.old.places.items) }
-    ensures block { IfOk result (λ _. IsBlock (values rows.now) block.new) }
+    ensures block { IfOk result (λ _. IsBlock (referenced_rows rows.now) block.new) }
 {
     let places = without(alloc, &block.places, place)?;
     *block = block_of(alloc, rows, places)?;

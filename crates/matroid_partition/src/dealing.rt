@@ -2,7 +2,7 @@
 
 ghost use Rattle.std.specs.Prelude.{◌≡◌, ℕ, ◌+◌, ◌*◌, ◌<◌, ◌≤◌, All, IfOk, IfSome, IfNone, List, length, slice_index, true};
 ghost use Rattle.gf2_linear.specs.Rows.{is_sum};
-ghost use Rattle.matroid_partition.specs.Dealings.{AreRows, IsBack, IsBegun, IsDealing, IsHeld, IsMarked, IsOpened, IsShownWide, IsStuck, IsStuckAll, IsTakenIn};
+ghost use Rattle.matroid_partition.specs.Dealings.{AreRows, IsBack, HasNewBlock, IsDealing, IsHeld, AddsMarks, IsOpened, IsShownWide, FindsNoPlace, IsStuckAll, IsTakenIn};
 
 use crate::partitioning::Partitioning;
 use crate::witness::seen_places;
@@ -44,7 +44,7 @@ pub fn offer<'a>(
     requires there { place < length rows.now }
     requires sum { is_sum dealing.old.held.all (slice_index rows.now place) ≡ true }
     ensures none { IfOk result (λ o. IfNone o (IsTakenIn rows.now place dealing.old dealing.new)) }
-    ensures some { IfOk result (λ o. IfSome o (λ s. IsStuck rows.now place dealing.old dealing.new s.items)) }
+    ensures some { IfOk result (λ o. IfSome o (λ s. FindsNoPlace rows.now place dealing.old dealing.new s.items)) }
 {
     match dealing.held.settle(alloc, &rows[place])? {
         None => {
@@ -91,7 +91,7 @@ pub fn retry<'a>(
 fn mark(marks: &mut Vec<bool>, names: &[usize], seen: &[bool])
     requires below { All (λ y. y < length marks.old.items) names.now }
     requires long { length names.now ≤ length seen.now }
-    ensures { IsMarked marks.old.items marks.new.items names.now seen.now }
+    ensures { AddsMarks marks.old.items marks.new.items names.now seen.now }
 {
     'names: for (held, name) in names.iter().enumerate() {
         if seen[held] {
@@ -128,7 +128,7 @@ fn open_with<'a>(
     requires there { place < length rows.now }
     requires sum { is_sum dealing.old.held.all (slice_index rows.now place) ≡ true }
     requires nonzero { slice_index rows.now place ≡ 0 → ⊥ }
-    ensures { IfOk result (λ _. IsBegun rows.now place dealing.old dealing.new) }
+    ensures { IfOk result (λ _. HasNewBlock rows.now place dealing.old dealing.new) }
 {
     dealing.held.begin(alloc, &rows[place])?;
     dealing.names.push(place)?;

@@ -3,7 +3,7 @@
 ghost use Rattle.std.specs.Prelude.{◌≡◌, ℕ, ◌/◌, ◌<◌, ◌≤◌, All, IfOk, length, map, slice_index, vec_len};
 ghost use Rattle.std.specs.List.{range_with_len};
 ghost use Rattle.std.specs.List.Sorted.{IsStrictlyIncreasing};
-ghost use Rattle.matroid_partition.specs.Dealings.{IsDealing, IsHoused, IsWritten, at_home};
+ghost use Rattle.matroid_partition.specs.Dealings.{IsDealing, IsHoused, AreWrittenAt, at_home};
 ghost use Rattle.gf2_linear.specs.Wide.{count_of};
 ghost use Rattle.matroid_partition.specs.Spares.{IsSparePartition};
 
@@ -65,7 +65,7 @@ fn write_at(list: &mut Vec<usize>, places: &[usize], numbers: &[usize])
     requires below { All (λ y. y < length list.old.items) places.now }
     requires long { length places.now ≤ length numbers.now }
     requires once { (y : ℕ) → count_of y places.now ≤ 1 }
-    ensures { IsWritten list.old.items list.new.items places.now numbers.now (length places.now) }
+    ensures { AreWrittenAt list.old.items list.new.items places.now numbers.now (length places.now) }
 {
     'places: for (index, place) in places.iter().enumerate() {
         list[*place] = numbers[index];

@@ -2,7 +2,7 @@
 //! of a partitioning one by one.
 
 ghost use Rattle.std.specs.Prelude.{◌≡◌, ◌==◌, ℕ, ◌+◌, ◌<◌, cond, IfOk, length, slice_index};
-ghost use Rattle.matroid_partition.specs.Blocks.{HasRoomAt, IsState, moved, places_at, values};
+ghost use Rattle.matroid_partition.specs.Blocks.{HasRoomAt, IsState, moved_between, places_at, referenced_rows};
 ghost use Rattle.matroid_partition.specs.Searches.{IsChain};
 
 use crate::blocks::{Block, append, put, take};
@@ -19,10 +19,10 @@ pub fn shift(
     blocks: &mut Vec<Block>,
     homes: &mut Vec<usize>,
 ) -> Result<(), AllocError>
-    requires state { IsState (values rows.now) homes.old.items blocks.old.items }
-    requires next { length homes.old.items < length (values rows.now) }
-    requires chain { IsChain (values rows.now) homes.old.items blocks.old.items nodes.now chain.last chain.into }
-    ensures state { IfOk result (λ _. IsState (values rows.now) homes.new.items blocks.new.items) }
+    requires state { IsState (referenced_rows rows.now) homes.old.items blocks.old.items }
+    requires next { length homes.old.items < length (referenced_rows rows.now) }
+    requires chain { IsChain (referenced_rows rows.now) homes.old.items blocks.old.items nodes.now chain.last chain.into }
+    ensures state { IfOk result (λ _. IsState (referenced_rows rows.now) homes.new.items blocks.new.items) }
     ensures homes { IfOk result (λ _. length homes.new.items ≡ length homes.old.items + 1) }
     ensures count { IfOk result (λ _. length blocks.new.items ≡ length blocks.old.items) }
     ensures sizes { IfOk result (λ _. (k : ℕ) → length (places_at blocks.new.items k) ≡ length (places_at blocks.old.items k) + cond (k == chain.into) 1 0) }
@@ -48,14 +48,14 @@ fn exchange(
     blocks: &mut Vec<Block>,
     homes: &mut Vec<usize>,
 ) -> Result<usize, AllocError>
-    requires state { IsState (values rows.now) homes.old.items blocks.old.items }
+    requires state { IsState (referenced_rows rows.now) homes.old.items blocks.old.items }
     requires old { place < length homes.old.items }
-    requires room { HasRoomAt (slice_index (values rows.now) place) blocks.old.items into }
+    requires room { HasRoomAt (slice_index (referenced_rows rows.now) place) blocks.old.items into }
     ensures home { IfOk result (λ h. h ≡ slice_index homes.old.items place) }
-    ensures state { IfOk result (λ _. IsState (values rows.now) homes.new.items blocks.new.items) }
+    ensures state { IfOk result (λ _. IsState (referenced_rows rows.now) homes.new.items blocks.new.items) }
     ensures homes { IfOk result (λ _. length homes.new.items ≡ length homes.old.items) }
     ensures count { IfOk result (λ _. length blocks.new.items ≡ length blocks.old.items) }
-    ensures moved { IfOk result (λ h. (k : ℕ) → places_at blocks.new.items k ≡ moved (places_at blocks.old.items) into place h k) }
+    ensures moved { IfOk result (λ h. (k : ℕ) → places_at blocks.new.items k ≡ moved_between (places_at blocks.old.items) into place h k) }
 {
     let home = homes[place];
     put(alloc, rows, &mut blocks[into], place)?;

@@ -5,7 +5,7 @@
 
 ghost use Rattle.std.specs.Prelude.{◌≡◌, ℕ, ◌*◌, ◌<◌, ◌++◌, ◌∷◌, [], All, List, IfOk, length, true};
 ghost use Rattle.std.specs.List.Sorted.{IsStrictlyIncreasing};
-ghost use Rattle.matroid_partition.specs.Blocks.{values};
+ghost use Rattle.matroid_partition.specs.Blocks.{referenced_rows};
 ghost use Rattle.matroid_partition.specs.Flats.{IsFlat};
 
 use gf2_linear::{Basis, Row};
@@ -33,7 +33,7 @@ pub fn no_flat(alloc: Global) -> Flat
 pub fn flat_at(alloc: Global, rows: &[&Row], places: &[usize]) -> Result<Flat, AllocError>
     requires within { All (λ i. i < length rows.now) places.now }
     requires ascending { IsStrictlyIncreasing places.now }
-    ensures flat { IfOk result (λ f. IsFlat (values rows.now) f) }
+    ensures flat { IfOk result (λ f. IsFlat (referenced_rows rows.now) f) }
 {
     let mut flat = no_flat(alloc);
     'places: for place in places {

@@ -39,14 +39,14 @@ pub struct Partitioning<'a> {
 }
 
 impl<'a> Model for Partitioning<'a> {
-    ghost use Rattle.matroid_partition.specs.Blocks.{values};
+    ghost use Rattle.matroid_partition.specs.Blocks.{referenced_rows};
     ghost use Rattle.matroid_partition.specs.Arrangements.{Arrangement, IsPartitioning};
 
     ghost Value = { Arrangement };
 
-    ghost view = { λ s. record { rows = values s.rows.items; homes = s.homes.items; blocks = s.blocks.items; all = s.all } };
+    ghost view = { λ s. record { rows = referenced_rows s.rows.items; homes = s.homes.items; blocks = s.blocks.items; all = s.all } };
 
-    ghost invariant = { λ s. IsPartitioning (record { rows = values s.rows.items; homes = s.homes.items; blocks = s.blocks.items; all = s.all }) s.unfilled.items };
+    ghost invariant = { λ s. IsPartitioning (record { rows = referenced_rows s.rows.items; homes = s.homes.items; blocks = s.blocks.items; all = s.all }) s.unfilled.items };
 }
 
 impl<'a> Partitioning<'a> {

@@ -3,7 +3,7 @@
 ghost use Rattle.std.specs.Prelude.{◌+◌, ◌<◌, IfOk, IfSome, IfNone, length, slice_index, true, false};
 ghost use Rattle.matroid_partition.specs.Blocks.{HasRoomAt};
 ghost use Rattle.matroid_partition.specs.Arrangements.{rows_with};
-ghost use Rattle.matroid_partition.specs.Searches.{IsChainOf, IsFrontOf, IsGrown, IsMember, IsNear, IsRoot, IsSeen, IsSet, IsStart, node_at};
+ghost use Rattle.matroid_partition.specs.Searches.{IsChainOf, IsFrontOf, IsGrown, IsMember, IsNear, IsRoot, IsSeen, IsSet, IsStart, search_node};
 
 use crate::partitioning::Partitioning;
 use crate::roomless::{Roomless, none_roomless};
@@ -195,7 +195,7 @@ impl<'a> Partitioning<'a> {
         requires there { node < length front.old.nodes.items }
         requires block { number < length self.now.blocks }
         requires front { IsFrontOf self.now new.now front.old node number }
-        requires set { IsSet (rows_with self.now new.now) self.now.homes self.now.blocks (node_at front.old.nodes.items node) number set.now }
+        requires set { IsSet (rows_with self.now new.now) self.now.homes self.now.blocks (search_node front.old.nodes.items node) number set.now }
         ensures some { IfOk result (λ o. IfSome o (λ c. IsChainOf self.now new.now front.new.nodes.items c)) }
         ensures none { IfOk result (λ o. IfNone o (IsFrontOf self.now new.now front.new node (number + 1))) }
         ensures there { IfOk result (λ o. IfNone o (node < length front.new.nodes.items)) }
@@ -223,7 +223,7 @@ impl<'a> Partitioning<'a> {
     ) -> Result<Option<Chain>, AllocError>
         requires there { node < length front.old.nodes.items }
         requires front { let number = slice_index self.now.homes place in IsFrontOf self.now new.now front.old node number }
-        requires member { let number = slice_index self.now.homes place in IsMember (rows_with self.now new.now) self.now.homes self.now.blocks (node_at front.old.nodes.items node) number place }
+        requires member { let number = slice_index self.now.homes place in IsMember (rows_with self.now new.now) self.now.homes self.now.blocks (search_node front.old.nodes.items node) number place }
         ensures some { IfOk result (λ o. IfSome o (λ c. IsChainOf self.now new.now front.new.nodes.items c)) }
         ensures none { let number = slice_index self.now.homes place in IfOk result (λ o. IfNone o (IsFrontOf self.now new.now front.new node number)) }
         ensures seen { IfOk result (λ o. IfNone o (IsSeen front.new.seen.items place)) }

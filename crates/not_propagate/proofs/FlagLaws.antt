@@ -16,7 +16,7 @@ use Rattle.unitary_model.proofs.Slide.{Off, OffOp}
 use Rattle.unitary_model.proofs.Steps.{Step, Step_trans, Step_then, Step_inside, Step_slide, Step_slide_back}
 use Rattle.unitary_model.proofs.Windows.{Agree, in_place}
 use Rattle.circuit_list.specs.Gates.{ops}
-use Rattle.not_propagate.specs.Walks.{flag_of, waiting_from, waiting, turned}
+use Rattle.not_propagate.specs.Walks.{flag_of, waiting_from, waiting, flipped_at}
 
 abbrev pub xs : List Bool → List Op
 xs fs = ops (waiting fs)
@@ -89,7 +89,7 @@ window_x q = record {
   cx_gates = omega arith;
 }
 
-pub x_set : (fs : List Bool) (q : ℕ) → q < length fs → Step (cond (flag_of fs q) 4 0) (xs fs ++ flip q ∷ []) (xs (turned fs q))
+pub x_set : (fs : List Bool) (q : ℕ) → q < length fs → Step (cond (flag_of fs q) 4 0) (xs fs ++ flip q ∷ []) (xs (flipped_at fs q))
 x_set fs q lt = go (flag_of fs q) refl
   where
     go : (b : Bool) → flag_of fs q ≡ b → Step (cond b 4 0) (xs fs ++ flip q ∷ []) (xs (set fs q (not b)))

@@ -13,7 +13,7 @@ use Rattle.circuit_list.specs.Gates.{IsFine}
 use Rattle.path_parity.specs.NamedSums.{SamePathSum, constant_of}
 use Rattle.rewrite_pass.specs.Traces.{IsSumsStep, constants_turn}
 use Rattle.not_propagate.specs.declared.walk.Walk.{Walk}
-use Rattle.not_propagate.specs.Walks.{gates_at, flags_at, turn_at, IsFitting, HasWalked, HasFinished}
+use Rattle.not_propagate.specs.Walks.{gates_at, flags_at, turn_at, IsFittingWalk, HasWalked, HasFinished}
 use Rattle.not_propagate.proofs.RunLaws.{next_gate}
 use Rattle.not_propagate.proofs.NotSums.{written, turns, written-sums, written-constants}
 
@@ -46,7 +46,7 @@ follows_on n gs i g old new there walked h =
     sums : (x y z k o m r : ℕ) → x ≡ y → z ≡ k + y → m ≡ (o + k) % 8 → (o + z) % 8 ≡ r % 8 → (m + x) % 8 ≡ r % 8
     sums x y z k o m r a b c d = omega (arith, a, b, c, d)
 
-pub follows_end : (n : ℕ) (gs : List Gate) (i : ℕ) (w : Walk) (p : Passed) → All (IsFine n) gs → length gs ≤ i → w.written.wires ≡ n → IsFitting w →
+pub follows_end : (n : ℕ) (gs : List Gate) (i : ℕ) (w : Walk) (p : Passed) → All (IsFine n) gs → length gs ≤ i → w.written.wires ≡ n → IsFittingWalk w →
     HasFinished w p → Follows n gs i w → IsSumsStep n p.body.gates gs p.body.gates p.turn
 follows_end n gs i w p fine past wires fits done h = record {
   fine = subst (λ m. All (IsFine m) p.body.gates) (done.wires ∙ wires) done.fine;

@@ -19,7 +19,7 @@ use Rattle.path_parity.specs.PathSum.{PathLabel, label, xor, Wires, with_label, 
 use Rattle.path_parity.specs.NamedSums.{Seen, unseen, seen_more, next_variable, named_last, hadamards, set_before, terms, constant, constant_of, total, SamePathSum}
 use Rattle.path_parity.proofs.PathSumLaws.{xor_false}
 use Rattle.not_propagate.proofs.RunLaws.{length-flags_at}
-use Rattle.not_propagate.specs.Walks.{flag_of, waiting_from, waiting, turned, gates_at, flags_at, turn_at}
+use Rattle.not_propagate.specs.Walks.{flag_of, waiting_from, waiting, flipped_at, gates_at, flags_at, turn_at}
 
 abbrev pub written : List Gate → List Bool → List Gate
 written [] fs = waiting fs
@@ -96,9 +96,9 @@ flagged-h fs w v q m lt r = flagged-put fs (flags_at (H q) fs) w v q (2 ^ m) fal
     go true e p = flag-set fs q p false lt
     go false e p = flag-own fs q p false e
 
-flagged-x : (fs : List Bool) (w v : Wires) (q : ℕ) → q < length fs → Flagged fs w v → Flagged (turned fs q) (with_label w q (flipped (w q))) v
-flagged-x fs w v q lt r = subst (Flagged (turned fs q) (with_label w q (flipped (w q)))) (with_own v q)
-    (flagged-put fs (turned fs q) w v q (v q).variables (not (flag_of fs q)) (flipped (w q)) (v q) r (λ p. flag-set fs q p (not (flag_of fs q)) lt) (ap flipped (r.at q)) (ap (label (v q).variables) (r.clear q)))
+flagged-x : (fs : List Bool) (w v : Wires) (q : ℕ) → q < length fs → Flagged fs w v → Flagged (flipped_at fs q) (with_label w q (flipped (w q))) v
+flagged-x fs w v q lt r = subst (Flagged (flipped_at fs q) (with_label w q (flipped (w q)))) (with_own v q)
+    (flagged-put fs (flipped_at fs q) w v q (v q).variables (not (flag_of fs q)) (flipped (w q)) (v q) r (λ p. flag-set fs q p (not (flag_of fs q)) lt) (ap flipped (r.at q)) (ap (label (v q).variables) (r.clear q)))
 
 flagged-cx : (fs : List Bool) (w v : Wires) (c t : ℕ) → t < length fs → Flagged fs w v →
     Flagged (flags_at (Cx c t) fs) (with_label w t (add_labels (w t) (w c))) (with_label v t (add_labels (v t) (v c)))
@@ -109,7 +109,7 @@ flagged-cx fs w v c t lt r = flagged-put fs (flags_at (Cx c t) fs) w v t (bit_xo
     turns_by true = refl
     turns_by false = refl
 
-    go : (b : Bool) (p : ℕ) → flag_of (cond b (turned fs t) fs) p ≡ cond (nat_eq p t) (xor (flag_of fs t) b) (flag_of fs p)
+    go : (b : Bool) (p : ℕ) → flag_of (cond b (flipped_at fs t) fs) p ≡ cond (nat_eq p t) (xor (flag_of fs t) b) (flag_of fs p)
     go true p = flag-set fs t p (not (flag_of fs t)) lt ∙ ap (λ b. cond (nat_eq p t) b (flag_of fs p)) (turns_by (flag_of fs t))
     go false p = flag-own fs t p (xor (flag_of fs t) false) (sym (xor_false (flag_of fs t)))
 
@@ -233,12 +233,12 @@ walked n (H q ∷ gs) fs w v s f len r =
     (walked n gs (flags_at (H q) fs) (with_label w q (fresh m)) (with_label v q (fresh m)) (seen_more s q) f.1 (length-flags_at (H q) fs ∙ len) (flagged-h fs w v q m lt r))
 walked n (X q ∷ gs) fs w v s f len r =
     let lt : q < length fs = subst (λ k. q < k) (sym len) f.0 in
-    let R = walked n gs (turned fs q) (with_label w q (flipped (w q))) v s f.1 (length-flags_at (X q) fs ∙ len) (flagged-x fs w v q lt r) in
+    let R = walked n gs (flipped_at fs q) (with_label w q (flipped (w q))) v s f.1 (length-flags_at (X q) fs ∙ len) (flagged-x fs w v q lt r) in
     record {
       hads = R.hads;
       adds = R.adds;
       last = R.last;
-      constants = go (flag_of fs q) (constant n gs (with_label w q (flipped (w q))) s) (turns gs (turned fs q)) (count fs) (count (turned fs q)) (constant n (written gs (turned fs q)) v s) (count-set fs q (not (flag_of fs q)) lt) R.constants;
+      constants = go (flag_of fs q) (constant n gs (with_label w q (flipped (w q))) s) (turns gs (flipped_at fs q)) (count fs) (count (flipped_at fs q)) (constant n (written gs (flipped_at fs q)) v s) (count-set fs q (not (flag_of fs q)) lt) R.constants;
     }
   where
     go : (b : Bool) (a t c d e : ℕ) → d + cond b 1 0 ≡ c + cond (not b) 1 0 → (a + t + 2 * d) % 8 ≡ e % 8 → (2 + a + (cond b 4 0 + t) + 2 * c) % 8 ≡ e % 8
@@ -293,7 +293,7 @@ walked n (Cx c t ∷ gs) fs w v s f len r =
       constants = go (flag_of fs c) (flag_of fs t) (constant n gs w' s) (turns gs fs') (count fs) (count fs') (constant n (written gs fs') v' s) (counts (flag_of fs c) lt) R.constants;
     }
   where
-    counts : (b : Bool) → t < length fs → count (cond b (turned fs t) fs) + cond b (cond (flag_of fs t) 1 0) 0 ≡ count fs + cond b (cond (not (flag_of fs t)) 1 0) 0
+    counts : (b : Bool) → t < length fs → count (cond b (flipped_at fs t) fs) + cond b (cond (flag_of fs t) 1 0) 0 ≡ count fs + cond b (cond (not (flag_of fs t)) 1 0) 0
     counts true lt = count-set fs t (not (flag_of fs t)) lt
     counts false lt = refl
 

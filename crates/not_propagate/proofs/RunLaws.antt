@@ -21,11 +21,11 @@ use Rattle.rewrite_pass.specs.Derivations.{HasNoMore}
 use Rattle.rewrite_pass.proofs.RewritingLaws.{Turned, Turned_refl, Turned_step}
 use Rattle.not_propagate.specs.declared.walk.Walk.{Walk}
 use Rattle.not_propagate.specs.LastX.{XLast}
-use Rattle.not_propagate.specs.Walks.{flag_of, waiting, turned, gates_at, flags_at, turn_at, is_x, NoX, IsFitting, HasWalked, HasFinished}
+use Rattle.not_propagate.specs.Walks.{flag_of, waiting, flipped_at, gates_at, flags_at, turn_at, is_x, NoX, IsFittingWalk, HasWalked, HasFinished}
 use Rattle.not_propagate.proofs.WalkLaws.{walk_step, turn_small}
 use Rattle.not_propagate.proofs.EndLaws.{waiting_none, last_x}
 
-pub fits_first : (m : ℕ) (w : Walk) → w.written.wires ≡ m → w.flags.items ≡ replicate m false → w.turn ≡ 0 → IsFitting w
+pub fits_first : (m : ℕ) (w : Walk) → w.written.wires ≡ m → w.flags.items ≡ replicate m false → w.turn ≡ 0 → IsFittingWalk w
 fits_first m w n f t = record { flags = ap length f ∙ length-replicate m false ∙ sym n; turn = omega (arith, t) }
 
 pub none_first : (w : Walk) → w.written.gates ≡ [] → NoX w.written.gates
@@ -45,7 +45,7 @@ next_gate gs i g e =
     ∙ (λ j. get_or_from_slice_get gs i g g e j ∷ drop (sym (add-one i) j) gs)
 
 pub goes_on : (n : ℕ) (gs : List Gate) (i : ℕ) (g : Gate) (old new : Walk) →
-    IsFitting old → slice_get gs i ≡ Some g → IsFine old.written.wires g →
+    IsFittingWalk old → slice_get gs i ≡ Some g → IsFine old.written.wires g →
     HasWalked (gates_at g old.flags.items) (flags_at g old.flags.items) (turn_at g old.flags.items) old new →
     Turned n gs (old.written.gates ++ (waiting old.flags.items ++ drop i gs)) old.turn →
     Turned n gs (new.written.gates ++ (waiting new.flags.items ++ drop (i + 1) gs)) new.turn
@@ -74,12 +74,12 @@ length-flags_at (X q) fs = length-set fs q _
 length-flags_at (P k q) fs = refl
 length-flags_at (Cx c t) fs = go (flag_of fs c)
   where
-    go : (b : Bool) → length (cond b (turned fs t) fs) ≡ length fs
+    go : (b : Bool) → length (cond b (flipped_at fs t) fs) ≡ length fs
     go true = length-set fs t _
     go false = refl
 
-pub fits_on : (g : Gate) (old new : Walk) → IsFitting old →
-    HasWalked (gates_at g old.flags.items) (flags_at g old.flags.items) (turn_at g old.flags.items) old new → IsFitting new
+pub fits_on : (g : Gate) (old new : Walk) → IsFittingWalk old →
+    HasWalked (gates_at g old.flags.items) (flags_at g old.flags.items) (turn_at g old.flags.items) old new → IsFittingWalk new
 fits_on g old new fits walked = record {
   flags = ap length walked.flags ∙ length-flags_at g old.flags.items ∙ fits.flags ∙ sym walked.wires;
   turn = omega (arith, walked.turn);

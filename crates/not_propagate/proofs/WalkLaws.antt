@@ -10,7 +10,7 @@ use Rattle.std.proofs.lemmas.List.{map-append, length-set, set-get_or, get_or-se
 use Rattle.unitary_model.specs.declared.Op.{Op}
 use Rattle.unitary_model.specs.declared.Op.TheVariants.{Cx as OpCx}
 use Rattle.unitary_model.specs.Ring.{nought, unit, plus, turn1}
-use Rattle.unitary_model.specs.Paths.Event.{Toggle, Fresh, Add}
+use Rattle.unitary_model.specs.Paths.PathEvent.{Toggle, Fresh, Add}
 use Rattle.unitary_model.specs.Paths.{Covers, toggle_where_odd}
 use Rattle.unitary_model.proofs.HadamardWindows.{had, flip, phase}
 use Rattle.unitary_model.proofs.PathLaws.{Covers_refl}
@@ -19,7 +19,7 @@ use Rattle.unitary_model.proofs.Windows.{Agree, in_place, Distinct}
 use Rattle.circuit_list.specs.declared.Gate.{Gate}
 use Rattle.circuit_list.specs.declared.Gate.TheVariants.{H, X, P, Cx}
 use Rattle.circuit_list.specs.Gates.{IsFine, op_of, ops}
-use Rattle.not_propagate.specs.Walks.{flag_of, waiting, turned, gates_at, flags_at, turn_at}
+use Rattle.not_propagate.specs.Walks.{flag_of, waiting, flipped_at, gates_at, flags_at, turn_at}
 use Rattle.not_propagate.proofs.FlagLaws.{xs, Step_cons, Step_after, Step_last, off_flags, put_flag, x_set, pass_by, pass_first, meets}
 
 -- ---- an X before a gate
@@ -144,7 +144,7 @@ cx_step fs c t cl tl ne = go (flag_of fs c) refl
     fits : t < length gs
     fits = let e : length gs ≡ length fs = length-set fs c false in omega arith
 
-    go : (b : Bool) → flag_of fs c ≡ b → Step (cond b (2 + cond (flag_of fs t) 4 0) 0) (xs fs ++ OpCx c t ∷ []) (OpCx c t ∷ xs (cond b (turned fs t) fs))
+    go : (b : Bool) → flag_of fs c ≡ b → Step (cond b (2 + cond (flag_of fs t) 4 0) 0) (xs fs ++ OpCx c t ∷ []) (OpCx c t ∷ xs (cond b (flipped_at fs t) fs))
     go false h = cx_free fs c t ne tl h
     go true h = Step_trans 2 (cond (flag_of fs t) 4 0) _ (xs gs ++ (OpCx c t ∷ flip c ∷ flip t ∷ [])) _ (meets 2 fs c (OpCx c t) (OpCx c t ∷ flip c ∷ flip t ∷ []) h (window_c c t ne))
         (Step_then (cond (flag_of fs t) 4 0) _ (OpCx c t ∷ (xs gs ++ (flip c ∷ flip t ∷ []))) _ (with_rest gs gs (OpCx c t) (OpCx c t ∷ []) (flip c ∷ flip t ∷ []) (cx_free gs c t ne fits (cleared fs c cl)))

@@ -3,12 +3,12 @@
 --   flag_of fs q            the flag of wire q
 --   waiting_from i fs       an X on each flagged wire, wires ascending, the first flag being that of wire i
 --   waiting fs              the same from wire 0 on
---   turned fs q             the flags, that of wire q the other way round
+--   flipped_at fs q         the flags, that of wire q the other way round
 --   gates_at g fs           what is written for gate g
 --   flags_at g fs           the flags behind it
 --   turn_at g fs            its turn
 --   is_x g, NoX gs          whether it is an X;  whether none of them is
---   IsFitting w             one flag for each wire, and the turn is below 8
+--   IsFittingWalk w         one flag for each wire, and the turn is below 8
 --   HasWalked gs fs t a b   from a to b these gates were written and this turn was made, and these are now the flags
 --   HasFinished w p         the walk's gates with the X that wait behind them, and its turn
 use Rattle.std.specs.Prelude.{◌≡◌, ℕ, suc, ◌+◌, ◌-◌, ◌%◌, ◌<◌, Bool, true, false, not, cond, List, [], ◌∷◌, ◌++◌, length, All}
@@ -30,8 +30,8 @@ waiting_from i (b ∷ fs) = cond b (X i ∷ waiting_from (suc i) fs) (waiting_fr
 abbrev pub waiting : List Bool → List Gate
 waiting fs = waiting_from 0 fs
 
-abbrev pub turned : List Bool → ℕ → List Bool
-turned fs q = set fs q (not (flag_of fs q))
+abbrev pub flipped_at : List Bool → ℕ → List Bool
+flipped_at fs q = set fs q (not (flag_of fs q))
 
 abbrev pub gates_at : Gate → List Bool → List Gate
 gates_at (H q) fs = cond (flag_of fs q) (H q ∷ P 4 q ∷ []) (H q ∷ [])
@@ -41,9 +41,9 @@ gates_at (Cx c t) fs = Cx c t ∷ []
 
 abbrev pub flags_at : Gate → List Bool → List Bool
 flags_at (H q) fs = cond (flag_of fs q) (set fs q false) fs
-flags_at (X q) fs = turned fs q
+flags_at (X q) fs = flipped_at fs q
 flags_at (P k q) fs = fs
-flags_at (Cx c t) fs = cond (flag_of fs c) (turned fs t) fs
+flags_at (Cx c t) fs = cond (flag_of fs c) (flipped_at fs t) fs
 
 abbrev pub turn_at : Gate → List Bool → ℕ
 turn_at (H q) fs = cond (flag_of fs q) 6 0
@@ -60,7 +60,7 @@ is_x (Cx c t) = false
 abbrev pub NoX : List Gate → Type 0
 NoX gs = All (λ g. is_x g ≡ false) gs
 
-pub record IsFitting (w : Walk) : Type 0 where
+pub record IsFittingWalk (w : Walk) : Type 0 where
   pub flags : length w.flags.items ≡ w.written.wires
   pub turn : w.turn < 8
 

@@ -3,7 +3,7 @@
 ghost use Rattle.std.specs.Prelude.{◌≡◌, ◌≢◌, ◌-◌, ◌<◌, ◌≤◌, [], replicate, false, cond, IfOk, OnOk};
 ghost use Rattle.circuit_list.specs.declared.Gate.TheVariants.{Cx, H, P, X};
 ghost use Rattle.circuit_list.specs.Gates.{IsFine, most_wires};
-ghost use Rattle.not_propagate.specs.Walks.{HasFinished, HasWalked, IsFitting, flag_of, flags_at, gates_at, turn_at, turned};
+ghost use Rattle.not_propagate.specs.Walks.{HasFinished, HasWalked, IsFittingWalk, flag_of, flags_at, gates_at, turn_at, flipped_at};
 
 use circuit_list::{Circuit, Gate, Passed};
 use std::alloc::{AllocError, Global};
@@ -38,7 +38,7 @@ impl Walk {
 
     /// Takes the next gate.
     pub(crate) fn step(&mut self, gate: Gate) -> Result<(), AllocError>
-        requires fits { IsFitting self.old }
+        requires fits { IsFittingWalk self.old }
         requires fine { IsFine self.old.written.wires gate }
         ensures ok { OnOk result (HasWalked (gates_at gate self.old.flags.items) (flags_at gate self.old.flags.items)
             (turn_at gate self.old.flags.items) self.old self.new) }
@@ -56,9 +56,9 @@ impl Walk {
 
     /// An X: two on one wire make w^4.
     fn turn_flag(&mut self, q: u32)
-        requires fits { IsFitting self.old }
+        requires fits { IsFittingWalk self.old }
         requires wire { q < self.old.written.wires }
-        ensures { HasWalked [] (turned self.old.flags.items q) (cond (flag_of self.old.flags.items q) 4 0) self.old self.new }
+        ensures { HasWalked [] (flipped_at self.old.flags.items q) (cond (flag_of self.old.flags.items q) 4 0) self.old self.new }
     {
         if self.flags[q as usize] {
             self.turn = turn_sum(self.turn, 4);
@@ -68,7 +68,7 @@ impl Walk {
 
     /// An H: X, H is w^6 times H, Z.
     fn step_h(&mut self, q: u32) -> Result<(), AllocError>
-        requires fits { IsFitting self.old }
+        requires fits { IsFittingWalk self.old }
         requires wire { q < self.old.written.wires }
         ensures { OnOk result (HasWalked (gates_at (H q) self.old.flags.items) (flags_at (H q) self.old.flags.items)
             (turn_at (H q) self.old.flags.items) self.old self.new) }
@@ -84,7 +84,7 @@ impl Walk {
 
     /// A phase: X, P(k) is w^-k times P(-k), X.
     fn step_phase(&mut self, k: u8, q: u32) -> Result<(), AllocError>
-        requires fits { IsFitting self.old }
+        requires fits { IsFittingWalk self.old }
         requires wire { q < self.old.written.wires }
         requires low { 0 < k }
         requires high { k < 8 }
@@ -101,7 +101,7 @@ impl Walk {
 
     /// A CNOT: an X on the target passes it; one on the control, which makes w^2, goes to the target too.
     fn step_cx(&mut self, c: u32, t: u32) -> Result<(), AllocError>
-        requires fits { IsFitting self.old }
+        requires fits { IsFittingWalk self.old }
         requires control { c < self.old.written.wires }
         requires target { t < self.old.written.wires }
         requires apart { c ≢ t }
@@ -118,7 +118,7 @@ impl Walk {
 
     /// Writes the X that are still to be written, wires ascending.
     pub(crate) fn finish(self) -> Result<Passed, AllocError>
-        requires fitting { IsFitting self }
+        requires fitting { IsFittingWalk self }
         ensures ok { IfOk result (HasFinished self) }
     {
         let Walk {

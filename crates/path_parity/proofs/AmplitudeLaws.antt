@@ -25,8 +25,8 @@ use Rattle.unitary_model.proofs.JoinedAmplitude.{sum_over-append, sum_over-map}
 use Rattle.unitary_model.proofs.PlacementLaws.{front-identity}
 use Rattle.unitary_model.proofs.RingLaws.{nought-plus, plus-nought, turn-nought, double-double}
 use Rattle.unitary_model.proofs.GateActs.{skew}
-use Rattle.path_parity.specs.PathSum.{label, value, Wires, fresh, own_labels, last_labels, exponent}
-use Rattle.path_parity.specs.PathForm.{hcount, over, norm}
+use Rattle.path_parity.specs.PathSum.{label, label_value, Wires, fresh, own_labels, last_labels, exponent}
+use Rattle.path_parity.specs.PathForm.{hcount, summed_over, norm}
 use Rattle.path_parity.specs.PathAmplitude.{paths_from, path_end, path_exponent, x_and_p_count, skewed, path_amplitude}
 use Rattle.path_parity.proofs.PathSumLaws.{bits_of, path_law}
 use Rattle.path_parity.proofs.MergeLaws.{start, start_low, start_bits, double-skew}
@@ -79,7 +79,7 @@ put-last x b = fun_ext (λ p. at x p)
     at (a ∷ x) zero = λ i. cond (here (length x) i) b a
     at (a ∷ x) (suc p) = (λ i. cond (same p (length x) i) b (bit_of x p)) ∙ at x p
 
-pub over-sum : (h n : ℕ) (K : Bits → Ring) (x : List Bool) → length x ≡ n → over h n K (bit_of x) ≡ sum_over (all_bits h) (λ z. K (bit_of (x ++ z)))
+pub over-sum : (h n : ℕ) (K : Bits → Ring) (x : List Bool) → length x ≡ n → summed_over h n K (bit_of x) ≡ sum_over (all_bits h) (λ z. K (bit_of (x ++ z)))
 over-sum zero n K x e = ap (λ z. K (bit_of z)) (sym (append-nil x)) ∙ sym (plus-nought (K (bit_of (x ++ []))))
 over-sum (suc h) n K x e =
     (λ i. plus (half false (over-sum h (suc n) K (x ++ false ∷ []) (longer false)) i) (half true (over-sum h (suc n) K (x ++ true ∷ []) (longer true)) i))
@@ -88,9 +88,9 @@ over-sum (suc h) n K x e =
     longer : (b : Bool) → length (x ++ b ∷ []) ≡ suc n
     longer b = omega (arith, length-append x (b ∷ []), e)
 
-    half : (b : Bool) → over h (suc n) K (bit_of (x ++ b ∷ [])) ≡ sum_over (all_bits h) (λ z. K (bit_of ((x ++ b ∷ []) ++ z))) →
-        over h (suc n) K (put (bit_of x) n b) ≡ sum_over (map (λ z. b ∷ z) (all_bits h)) (λ z. K (bit_of (x ++ z)))
-    half b r = ap (over h (suc n) K) ((λ i. put (bit_of x) (sym e i) b) ∙ put-last x b) ∙ r
+    half : (b : Bool) → summed_over h (suc n) K (bit_of (x ++ b ∷ [])) ≡ sum_over (all_bits h) (λ z. K (bit_of ((x ++ b ∷ []) ++ z))) →
+        summed_over h (suc n) K (put (bit_of x) n b) ≡ sum_over (map (λ z. b ∷ z) (all_bits h)) (λ z. K (bit_of (x ++ z)))
+    half b r = ap (summed_over h (suc n) K) ((λ i. put (bit_of x) (sym e i) b) ∙ put-last x b) ∙ r
         ∙ ap (sum_over (all_bits h)) (fun_ext (λ z. ap (λ v. K (bit_of v)) (append_assoc x (b ∷ []) z)))
         ∙ sym (sum_over-map (λ z. b ∷ z) (all_bits h) (λ z. K (bit_of (x ++ z))))
 
@@ -133,7 +133,7 @@ paths-whole gs x y below =
     let m = x_and_p_count gs in
     let f : Bits → Ring = λ z. cond (same_bits (front n z) y) unit nought in
     let K : Bits → Ring = λ z. turn (exponent (h + n) z gs w n) (f (bits_of (h + n) z (last_labels gs w n))) in
-    let ends : (k : ℕ) (u : Wires) (v : List Bool) → List Bool = λ k u v. map (λ q. value (k + n) (bit_of v) (last_labels gs u n q)) (identity n) in
+    let ends : (k : ℕ) (u : Wires) (v : List Bool) → List Bool = λ k u v. map (λ q. label_value (k + n) (bit_of v) (last_labels gs u n q)) (identity n) in
     let T : (k : ℕ) (u : Wires) → Ring = λ k u. sum_over (all_bits k) (λ z. cond (same_bits (ends k u (x ++ z)) y) (turn (exponent (k + n) (bit_of (x ++ z)) gs u n) unit) nought) in
     let each : (z : List Bool) → K (bit_of (x ++ z)) ≡ cond (same_bits (ends h w (x ++ z)) y) (turn (exponent (h + n) (bit_of (x ++ z)) gs w n) unit) nought =
     λ z. ap (λ r. turn (exponent (h + n) (bit_of (x ++ z)) gs w n) (cond (same_bits r y) unit nought)) (front-identity n (bits_of (h + n) (bit_of (x ++ z)) (last_labels gs w n)))
@@ -141,7 +141,7 @@ paths-whole gs x y below =
     amplitude-applied (ops gs) x y below
     ∙ ap (applied (ops gs) f) (sym (start_bits (h + n) n (bit_of x) (omega arith)))
     ∙ path_law (h + n) gs w n (start_low n (bit_of x)) (omega arith) f (bit_of x)
-    ∙ norm-skewed gs (over h n K (bit_of x))
+    ∙ norm-skewed gs (summed_over h n K (bit_of x))
     ∙ ap (λ r. double m (skewed h r)) (over-sum h n K x refl ∙ ap (sum_over (all_bits h)) (fun_ext each))
     ∙ (λ i. double m (skewed (hcount-h_count gs i) (T (hcount-h_count gs i) (start-own_labels n x refl i))))
     ∙ ap (λ r. double m (skewed (h_count gs) r))

@@ -7,7 +7,7 @@ use Rattle.std.specs.Prelude.{slice_get}
 use Rattle.std.proofs.Math.ListN.{drop_of_length-le}
 use Rattle.circuit_list.specs.declared.Gate.{Gate}
 use Rattle.path_parity.specs.PathSum.{PathLabel, Wires, labels_after, unused_after, phase_label, phase_labels}
-use Rattle.path_parity.specs.OddLabels.{odd_set, odd_sets, toggled_all}
+use Rattle.path_parity.specs.OddLabels.{odd_label, odd_sets, toggled_all}
 use Rattle.unitary_model.specs.OddPaths.{toggle}
 
 pub drop-get : {X : Type 0} (xs : List X) (i : ℕ) (x : X) → slice_get xs i ≡ Some x → drop i xs ≡ x ∷ drop (i + 1) xs
@@ -38,10 +38,10 @@ toggled_all-append (x ∷ xs) ys s = toggled_all-append xs ys (toggle x s)
 
 pub odd-step : (gs : List Gate) (i : ℕ) (g : Gate) (s : List ℕ) (w u : Wires) (n m size : ℕ) →
     slice_get gs i ≡ Some g → u ≡ labels_after g w n → m ≡ unused_after g n →
-    length (toggled_all (odd_sets (drop i gs) w n) s) ≡ size → length (toggled_all (odd_sets (drop (i + 1) gs) u m) (toggled_all (odd_set g w) s)) ≡ size
+    length (toggled_all (odd_sets (drop i gs) w n) s) ≡ size → length (toggled_all (odd_sets (drop (i + 1) gs) u m) (toggled_all (odd_label g w) s)) ≡ size
 odd-step gs i g s w u n m size h e d r =
-    (λ k. length (toggled_all (odd_sets (drop (i + 1) gs) (e k) (d k)) (toggled_all (odd_set g w) s)))
-    ∙ ap (λ (z : List ℕ). length z) (sym (toggled_all-append (odd_set g w) (odd_sets (drop (i + 1) gs) (labels_after g w n) (unused_after g n)) s))
+    (λ k. length (toggled_all (odd_sets (drop (i + 1) gs) (e k) (d k)) (toggled_all (odd_label g w) s)))
+    ∙ ap (λ (z : List ℕ). length z) (sym (toggled_all-append (odd_label g w) (odd_sets (drop (i + 1) gs) (labels_after g w n) (unused_after g n)) s))
     ∙ ap (λ hs. length (toggled_all (odd_sets hs w n) s)) (sym (drop-get gs i g h)) ∙ r
 
 pub odd-end : (gs : List Gate) (i : ℕ) (s : List ℕ) (w : Wires) (n size : ℕ) → length gs ≤ i → length (toggled_all (odd_sets (drop i gs) w n) s) ≡ size → length s ≡ size

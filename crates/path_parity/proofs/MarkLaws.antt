@@ -19,7 +19,7 @@ use Rattle.unitary_model.specs.Acts.{Bits}
 use Rattle.unitary_model.specs.Operations.{t_count}
 use Rattle.unitary_model.specs.OddPaths.{odd_paths}
 use Rattle.path_parity.specs.PathSum.{PathLabel, label, Wires, with_label, add_labels, flipped, fresh, own_labels, phase_labels, last_labels}
-use Rattle.path_parity.specs.OddLabels.{odd_sets, odd_size, IsOnce}
+use Rattle.path_parity.specs.OddLabels.{odd_sets, odd_label_count, IsOnce}
 use Rattle.path_parity.proofs.MergeLaws.{marks, start}
 use Rattle.path_parity.proofs.MergeSums.{Eighths}
 use Rattle.path_parity.proofs.OddLaws.{odd_paths-sets, odd_size-once}
@@ -98,8 +98,8 @@ odd_sets-marks (P k q ∷ gs) w n = ap (λ r. cond (nat_eq (k % 2) 1) ((w q).var
     go false r = refl
 odd_sets-marks (Cx c t ∷ gs) w n = odd_sets-marks gs (with_label w t (add_labels (w t) (w c))) n
 
-pub odd_paths-marks : (gs : List Gate) (n : ℕ) → odd_paths n (ops gs) ≡ odd_size (odd_marks (marks gs (own_labels n) n))
-odd_paths-marks gs n = odd_paths-sets gs n ∙ ap odd_size (odd_sets-marks gs (own_labels n) n)
+pub odd_paths-marks : (gs : List Gate) (n : ℕ) → odd_paths n (ops gs) ≡ odd_label_count (odd_marks (marks gs (own_labels n) n))
+odd_paths-marks gs n = odd_paths-sets gs n ∙ ap odd_label_count (odd_sets-marks gs (own_labels n) n)
 
 pub t_count-marks : (gs : List Gate) (w : Wires) (n : ℕ) → t_count (ops gs) ≡ length (odd_marks (marks gs w n))
 t_count-marks [] w n = refl

@@ -16,8 +16,8 @@ use Rattle.unitary_model.specs.Acts.{Bits, applied, Turns}
 use Rattle.unitary_model.specs.Operations.{weight}
 use Rattle.unitary_model.proofs.RingLaws.{turn_same, double-plus, double-turn, double-double}
 use Rattle.unitary_model.proofs.GateActs.{skew}
-use Rattle.path_parity.specs.PathSum.{PathLabel, label, xor, odd_over, value, Wires, with_label, add_labels, flipped, fresh, last_labels, exponent}
-use Rattle.path_parity.specs.PathForm.{hcount, over, norm}
+use Rattle.path_parity.specs.PathSum.{PathLabel, label, xor, odd_over, label_value, Wires, with_label, add_labels, flipped, fresh, last_labels, exponent}
+use Rattle.path_parity.specs.PathForm.{hcount, summed_over, norm}
 use Rattle.path_parity.proofs.PathSumLaws.{bits_of, Low, path_sum, path_sum-turn, path_law, norm-turn, xor_false, odd_over_own}
 use Rattle.std.proofs.lemmas.Bool.Decides.{nat_tests}
 use Rattle.std.specs.Int.{bit_at}
@@ -49,15 +49,15 @@ pcount (Cx c t ∷ gs) = pcount gs
 -- what the P add to the exponent
 abbrev pub phase_sum : ℕ → Bits → List (PathLabel × ℕ) → ℕ
 phase_sum N v [] = 0
-phase_sum N v (m ∷ ms) = cond (value N v m.0) m.1 0 + phase_sum N v ms
+phase_sum N v (m ∷ ms) = cond (label_value N v m.0) m.1 0 + phase_sum N v ms
 
 exponent-split : (N : ℕ) (v : Bits) (gs : List Gate) (w : Wires) (n : ℕ) → exponent N v gs w n ≡ phase_sum N v (marks gs w n) + exponent N v (frame gs) w n
 exponent-split N v [] w n = refl
-exponent-split N v (P k q ∷ gs) w n = ap (λ e. e + cond (value N v (w q)) k 0) (exponent-split N v gs w n) ∙ move (phase_sum N v (marks gs w n)) (exponent N v (frame gs) w n) (cond (value N v (w q)) k 0)
+exponent-split N v (P k q ∷ gs) w n = ap (λ e. e + cond (label_value N v (w q)) k 0) (exponent-split N v gs w n) ∙ move (phase_sum N v (marks gs w n)) (exponent N v (frame gs) w n) (cond (label_value N v (w q)) k 0)
   where
     move : (a b c : ℕ) → a + b + c ≡ c + a + b
     move a b c = omega arith
-exponent-split N v (H q ∷ gs) w n = ap (λ e. e + cond (value N v (w q)) (cond (v n) 4 0) 0) (exponent-split N v gs (with_label w q (fresh n)) (suc n)) ∙ add_assoc _ _ _
+exponent-split N v (H q ∷ gs) w n = ap (λ e. e + cond (label_value N v (w q)) (cond (v n) 4 0) 0) (exponent-split N v gs (with_label w q (fresh n)) (suc n)) ∙ add_assoc _ _ _
 exponent-split N v (X q ∷ gs) w n = ap (λ e. e + 2) (exponent-split N v gs (with_label w q (flipped (w q))) n) ∙ add_assoc _ _ _
 exponent-split N v (Cx c t ∷ gs) w n = exponent-split N v gs (with_label w t (add_labels (w t) (w c))) n
 
@@ -118,7 +118,7 @@ start_bits N n x le = fun_ext (λ q. go q (nat_lt q n) refl)
     below : (q : ℕ) → nat_lt q n ≡ true → q < n
     below q e = grind (arith, nat_tests)
 
-    go : (q : ℕ) (t : Bool) → nat_lt q n ≡ t → value N x (cond t (fresh q) (label 0 (x q))) ≡ x q
+    go : (q : ℕ) (t : Bool) → nat_lt q n ≡ t → label_value N x (cond t (fresh q) (label 0 (x q))) ≡ x q
     go q true e = let h : q < n = below q e in xor_false (odd_over N x (2 ^ q)) ∙ odd_over_own N q x (omega arith)
     go q false e = λ i. xor (odd_over_none N x i) (x q)
 
@@ -139,8 +139,8 @@ merged_law A B n t e h = record {
       let b : applied (ops B) f x ≡ norm B (path_sum N B w n f x) = ap (applied (ops B) f) (sym (start_bits N n x (omega arith))) ∙ path_law N B w n (start_low n x) (omega arith) f x in
       let F : List Gate = frame A in
       let sums : path_sum N B w n f x ≡ turn t PA =
-      (λ i. over (same_h i) n (λ z. turn (exponent N z B w n) (f (bits_of N z (same_last i)))) x)
-      ∙ ap (λ K. over (hcount A) n K x) (fun_ext (λ z. turn_same (exponent N z B w n) (exponent N z A w n + t) (f (bits_of N z (last_labels A w n)))
+      (λ i. summed_over (same_h i) n (λ z. turn (exponent N z B w n) (f (bits_of N z (same_last i)))) x)
+      ∙ ap (λ K. summed_over (hcount A) n K x) (fun_ext (λ z. turn_same (exponent N z B w n) (exponent N z A w n + t) (f (bits_of N z (last_labels A w n)))
       (let p = exponent-split N z B w n in let q = exponent-split N z A w n in
       let r : exponent N z (frame B) w n ≡ exponent N z F w n = ap (λ gs. exponent N z gs w n) (sym e) in
       let s = h N x z in omega (arith, p, q, r, s))))

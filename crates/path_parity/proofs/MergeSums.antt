@@ -10,9 +10,9 @@ use Rattle.std.proofs.Common.{◌≡◌, ◌≢◌, ℕ, ◌+◌, ◌-◌, ◌%�
 use Rattle.std.specs.Prelude.{nat_eq, bit_xor}
 use Rattle.std.proofs.lemmas.Bool.Decides.{nat_tests}
 use Rattle.unitary_model.specs.Acts.{Bits, Turns}
-use Rattle.unitary_model.specs.Paths.{Event, odd_set}
+use Rattle.unitary_model.specs.Paths.{PathEvent, odd_set}
 use Rattle.unitary_model.specs.OddPaths.{Labels, toggle}
-use Rattle.unitary_model.specs.Paths.Event.{Toggle, Fresh, Add}
+use Rattle.unitary_model.specs.Paths.PathEvent.{Toggle, Fresh, Add}
 use Rattle.circuit_list.specs.declared.Gate.{Gate}
 use Rattle.circuit_list.specs.Gates.{ops}
 use Rattle.path_parity.specs.PathSum.{PathLabel, xor, odd_over}
@@ -56,7 +56,7 @@ merge_pass_law A B n t e ha hb h c = merged_law A B n t e (λ N x v.
     omega (arith, p, q, s, u))
 
 -- ---- where no label is toggled twice, the odd set has them all
-abbrev pub toggle_list : List Event → Labels → ℕ → List ℕ
+abbrev pub toggle_list : List PathEvent → Labels → ℕ → List ℕ
 toggle_list [] labels n = []
 toggle_list (Toggle q ∷ es) labels n = labels q ∷ toggle_list es labels n
 toggle_list (Fresh q ∷ es) labels n = toggle_list es (paths.relabel labels q (2 ^ n)) (n + 1)
@@ -89,7 +89,7 @@ none_in-push : (r : List ℕ) (k : ℕ) (s : List ℕ) → NoneIn r s → NotIn 
 none_in-push [] k s h g = tt
 none_in-push (l ∷ r) k s h g = (not_in-push l k s h.0 (λ e. g.0 (sym e)), none_in-push r k s h.1 g.1)
 
-all_odd : (es : List Event) (labels : Labels) (n : ℕ) (s : List ℕ) → Distinct (toggle_list es labels n) → NoneIn (toggle_list es labels n) s → length (odd_set es labels n s) ≡ length (toggle_list es labels n) + length s
+all_odd : (es : List PathEvent) (labels : Labels) (n : ℕ) (s : List ℕ) → Distinct (toggle_list es labels n) → NoneIn (toggle_list es labels n) s → length (odd_set es labels n s) ≡ length (toggle_list es labels n) + length s
 all_odd [] labels n s d h = omega arith
 all_odd (Toggle q ∷ es) labels n s d h =
     ap (λ z. length (odd_set es labels n z)) (toggle_new (labels q) s h.0)
@@ -103,5 +103,5 @@ none_in-nil [] = tt
 none_in-nil (l ∷ r) = (tt, none_in-nil r)
 
 -- so there are as many odd path parities as toggles
-pub distinct_odd : (es : List Event) (labels : Labels) (n : ℕ) → Distinct (toggle_list es labels n) → length (odd_set es labels n []) ≡ length (toggle_list es labels n)
+pub distinct_odd : (es : List PathEvent) (labels : Labels) (n : ℕ) → Distinct (toggle_list es labels n) → length (odd_set es labels n []) ≡ length (toggle_list es labels n)
 distinct_odd es labels n d = all_odd es labels n [] d (none_in-nil (toggle_list es labels n)) ∙ omega arith

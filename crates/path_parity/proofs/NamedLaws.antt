@@ -21,7 +21,7 @@ use Rattle.unitary_model.specs.Acts.{Bits, put, applied}
 use Rattle.unitary_model.proofs.RingLaws.{turn-plus, turn-turn}
 use Rattle.unitary_model.proofs.Slide.{bit_put, bit_off}
 use Rattle.unitary_model.proofs.GateActs.{applied_phase, applied_flip, applied_had, skew}
-use Rattle.path_parity.specs.PathSum.{PathLabel, xor, odd_over, value, Wires, with_label, add_labels, flipped, fresh}
+use Rattle.path_parity.specs.PathSum.{PathLabel, xor, odd_over, label_value, Wires, with_label, add_labels, flipped, fresh}
 use Rattle.path_parity.specs.PathForm.{norm}
 use Rattle.path_parity.specs.NamedSums.{Seen, seen_more, next_variable, named_last, hadamards}
 use Rattle.path_parity.proofs.PathSumLaws.{bits_of, bits_of-with_label, norm-plus, norm-turn, odd_over_put, sum_bit, value-add, value-flipped, value_fresh}
@@ -105,7 +105,7 @@ odd_over-kept (suc k) m z v hs g h = λ i. xor (odd_over-kept k m z v hs g h i) 
     there false e = λ i. cond (nat_eq (bit_at m k) 1) (g k e i) false
     there true e = (λ i. cond (nat_eq (h k e i) 1) (z k) false) ∙ sym (λ i. cond (nat_eq (h k e i) 1) (v k) false)
 
-value-kept : (N : ℕ) (w : Wires) (q : ℕ) (z v : Bits) (hs : List (ℕ × ℕ)) → Untouched hs w → ((i : ℕ) → has i hs ≡ false → z i ≡ v i) → value N z (w q) ≡ value N v (w q)
+value-kept : (N : ℕ) (w : Wires) (q : ℕ) (z v : Bits) (hs : List (ℕ × ℕ)) → Untouched hs w → ((i : ℕ) → has i hs ≡ false → z i ≡ v i) → label_value N z (w q) ≡ label_value N v (w q)
 value-kept N w q z v hs u g = ap (λ b. xor b (w q).bit) (odd_over-kept N ((w q).variables) z v hs g (λ i f. u.none q i f))
 
 bits_of-kept : (N m : ℕ) (v : Bits) (w : Wires) (b : Bool) → ((p : ℕ) → bit_at ((w p).variables) m ≡ 0) → bits_of N (put v m b) w ≡ bits_of N v w
@@ -115,9 +115,9 @@ bits_of-kept N m v w b h = fun_ext (λ q. ap (λ z. xor z (w q).bit) (odd_over_p
 -- ---- the sum
 abbrev pub named_exponent : ℕ → Bits → ℕ → List Gate → Wires → Seen → ℕ
 named_exponent N v n [] w s = 0
-named_exponent N v n (H q ∷ gs) w s = named_exponent N v n gs (with_label w q (fresh (next_variable n s q))) (seen_more s q) + cond (value N v (w q)) (cond (v (next_variable n s q)) 4 0) 0
+named_exponent N v n (H q ∷ gs) w s = named_exponent N v n gs (with_label w q (fresh (next_variable n s q))) (seen_more s q) + cond (label_value N v (w q)) (cond (v (next_variable n s q)) 4 0) 0
 named_exponent N v n (X q ∷ gs) w s = named_exponent N v n gs (with_label w q (flipped (w q))) s + 2
-named_exponent N v n (P k q ∷ gs) w s = named_exponent N v n gs w s + cond (value N v (w q)) k 0
+named_exponent N v n (P k q ∷ gs) w s = named_exponent N v n gs w s + cond (label_value N v (w q)) k 0
 named_exponent N v n (Cx c t ∷ gs) w s = named_exponent N v n gs (with_label w t (add_labels (w t) (w c))) s
 
 abbrev pub collected : ℕ → ℕ → List Gate → Wires → Seen → (Bits → Ring) → Bits → Ring
@@ -141,7 +141,7 @@ pub named_law : (N n : ℕ) (gs : List Gate) (w : Wires) (s : Seen) → Once (ha
 unfolding bits_of
 named_law N n [] w s once low u f v = refl
 named_law N n (P k q ∷ gs) w s once low u f v =
-    let e = cond (value N v (w q)) k 0 in
+    let e = cond (label_value N v (w q)) k 0 in
     let hs = hadamards n gs w s in
     applied_phase k q (ops gs) f (bits_of N v w)
     ∙ ap (λ r. double 1 (turn e r)) (named_law N n gs w s once low u f v)
@@ -156,11 +156,11 @@ named_law N n (X q ∷ gs) w s once low u f v =
     ∙ ap (double 1) (sym (norm-turn gs 2 (named_sum N n gs w' s f v)) ∙ ap (norm gs) (named_sum-turn N n gs w' s 2 f v))
 named_law N n (Cx c t ∷ gs) w s once low u f v =
     let w' = with_label w t (add_labels (w t) (w c)) in
-    sum_bit (applied (ops gs) f) (bits_of N v w) t (value N v (w t)) (value N v (w c)) refl
+    sum_bit (applied (ops gs) f) (bits_of N v w) t (label_value N v (w t)) (label_value N v (w c)) refl
     ∙ ap (applied (ops gs) f) (sym (bits_of-with_label N v w t (add_labels (w t) (w c)) ∙ ap (put (bits_of N v w) t) (value-add N v (w t) (w c))))
     ∙ named_law N n gs w' s once low (untouched-sum (hadamards n gs w' s) w c t u) f v
 named_law N n (H q ∷ gs) w s once low u f v =
-    let e = cond (value N v (w q)) 4 0 in
+    let e = cond (label_value N v (w q)) 4 0 in
     let S = λ (b : Bool). named_sum N n gs w' s' f (put v m b) in
     let u' : Untouched hs w' = untouched-fresh h hs w q once.0 u in
     let branch = λ (b : Bool). ap (applied (ops gs) f) (sym (bits_of-with_label N (put v m b) w q (fresh m) ∙ (λ i. put (bits_of-kept N m v w b (λ p. u.none p m (has-first h hs)) i) q (value_fresh N m v b low.0 i))))
@@ -200,8 +200,8 @@ named_law N n (H q ∷ gs) w s once low u f v =
 
     first : named_sum N n gs w' s' f (put v m false) ≡ over_list hs K (put v m false)
     first = list-cong hs _ K (put v m false) (λ z g. ap (λ e. turn e (f (bits_of N z (named_last n gs w' s'))))
-        (sym (ap (λ e. named_exponent N z n gs w' s' + e) ((λ i. cond (value N z (w q)) (cond (newest z false g i) 4 0) 0) ∙ nothing (value N z (w q))) ∙ add-zero _)))
+        (sym (ap (λ e. named_exponent N z n gs w' s' + e) ((λ i. cond (label_value N z (w q)) (cond (newest z false g i) 4 0) 0) ∙ nothing (label_value N z (w q))) ∙ add-zero _)))
 
-    second : over_list hs (λ z. turn (named_exponent N z n gs w' s' + cond (value N v (w q)) 4 0) (f (bits_of N z (named_last n gs w' s')))) (put v m true) ≡ over_list hs K (put v m true)
+    second : over_list hs (λ z. turn (named_exponent N z n gs w' s' + cond (label_value N v (w q)) 4 0) (f (bits_of N z (named_last n gs w' s')))) (put v m true) ≡ over_list hs K (put v m true)
     second = list-cong hs _ K (put v m true) (λ z g. ap (λ e. turn e (f (bits_of N z (named_last n gs w' s'))))
         (ap (λ e. named_exponent N z n gs w' s' + e) (λ i. cond (sym (value-kept N w q z v (h ∷ hs) u (older z true g)) i) (cond (sym (newest z true g) i) 4 0) 0)))

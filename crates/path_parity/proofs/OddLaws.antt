@@ -20,15 +20,15 @@ use Rattle.circuit_list.specs.declared.Gate.{Gate}
 use Rattle.circuit_list.specs.declared.Gate.TheVariants.{H, X, P, Cx}
 use Rattle.circuit_list.specs.Gates.{ops}
 use Rattle.unitary_model.specs.declared.Op.{Op}
-use Rattle.unitary_model.specs.Paths.{Event, Parities, toggled, events, odd_set as events_set}
-use Rattle.unitary_model.specs.Paths.Event.{Toggle, Fresh, Add}
+use Rattle.unitary_model.specs.Paths.{PathEvent, Parities, toggled, events, odd_set as events_set}
+use Rattle.unitary_model.specs.Paths.PathEvent.{Toggle, Fresh, Add}
 use Rattle.unitary_model.proofs.OddPathsForm.{odd_paths-events}
 use Rattle.unitary_model.specs.OddPaths.{Labels, own_variables, toggle, Walk, walked_all, first_walk, odd_paths}
 use Rattle.unitary_model.specs.OddPaths as paths
 use Rattle.unitary_model.proofs.PathLaws.{par, par_toggle, toggled_twice, toggled_comm, toggle_shorter}
 use Rattle.unitary_model.proofs.FlatPaths.{par-map}
 use Rattle.path_parity.specs.PathSum.{PathLabel, Wires, with_label, add_labels, flipped, fresh, own_labels}
-use Rattle.path_parity.specs.OddLabels.{odd_sets, toggled_labels, toggled_all, odd_size, is_odd, IsLinear, IsOnce}
+use Rattle.path_parity.specs.OddLabels.{odd_sets, toggled_labels, toggled_all, odd_label_count, is_odd, IsLinear, IsOnce}
 
 pub par-is_odd : (l : ℕ) (ls : List ℕ) → par ls l ≡ is_odd l ls
 unfolding par
@@ -121,18 +121,18 @@ over-none (l ∷ ls) = ap (toggled l) (over-none ls)
 pub par-toggled_all : (ls : List ℕ) → par (toggled_all ls []) ≡ par ls
 par-toggled_all ls = par-over ls [] ∙ over-none ls
 
-pub odd_size-shortest : (ls ks : List ℕ) → par ls ≡ par ks → odd_size ls ≤ length ks
+pub odd_size-shortest : (ls ks : List ℕ) → par ls ≡ par ks → odd_label_count ls ≤ length ks
 odd_size-shortest ls ks h = shortest (toggled_all ls []) ks (toggled_all-once ls [] tt) (par-toggled_all ls ∙ h)
 
-pub odd_size-same : (ls ks : List ℕ) → par ls ≡ par ks → odd_size ls ≡ odd_size ks
+pub odd_size-same : (ls ks : List ℕ) → par ls ≡ par ks → odd_label_count ls ≡ odd_label_count ks
 odd_size-same ls ks h =
-    let a : odd_size ls ≤ odd_size ks = odd_size-shortest ls (toggled_all ks []) (h ∙ sym (par-toggled_all ks)) in
-    let b : odd_size ks ≤ odd_size ls = odd_size-shortest ks (toggled_all ls []) (sym h ∙ sym (par-toggled_all ls)) in
+    let a : odd_label_count ls ≤ odd_label_count ks = odd_size-shortest ls (toggled_all ks []) (h ∙ sym (par-toggled_all ks)) in
+    let b : odd_label_count ks ≤ odd_label_count ls = odd_size-shortest ks (toggled_all ls []) (sym h ∙ sym (par-toggled_all ls)) in
     omega arith
 
-pub odd_size-map : (f : ℕ → ℕ) (ls ks : List ℕ) → par ks ≡ par (map f ls) → odd_size ks ≤ odd_size ls
+pub odd_size-map : (f : ℕ → ℕ) (ls ks : List ℕ) → par ks ≡ par (map f ls) → odd_label_count ks ≤ odd_label_count ls
 odd_size-map f ls ks h =
-    let a : odd_size ks ≤ length (map f (toggled_all ls [])) = odd_size-shortest ks (map f (toggled_all ls [])) (h ∙ par-map f ls (toggled_all ls []) (sym (par-toggled_all ls))) in
+    let a : odd_label_count ks ≤ length (map f (toggled_all ls [])) = odd_size-shortest ks (map f (toggled_all ls [])) (h ∙ par-map f ls (toggled_all ls []) (sym (par-toggled_all ls))) in
     omega (arith, a, length-map (toggled_all ls []) f)
 
 -- ---- a circuit's odd sets
@@ -169,33 +169,33 @@ odd-sets (P j q ∷ gs) w n k h = ap (λ m. (walked_all (ops gs) (paths.toggle_o
 odd-sets (Cx c t ∷ gs) w n k h = odd-sets gs (with_label w t (add_labels (w t) (w c))) n (paths.add_at c t k)
     (record { labels = follows-with w n k t (add_labels (w t) (w c)) (bit_xor (k.labels t) (k.labels c)) h (λ i. bit_xor (h.labels t i) (h.labels c i)); unused = h.unused })
 
-pub odd_paths-sets : (gs : List Gate) (n : ℕ) → odd_paths n (ops gs) ≡ odd_size (odd_sets gs (own_labels n) n)
+pub odd_paths-sets : (gs : List Gate) (n : ℕ) → odd_paths n (ops gs) ≡ odd_label_count (odd_sets gs (own_labels n) n)
 odd_paths-sets gs n = ap (λ (s : List ℕ). length s) (odd-sets gs (own_labels n) n (first_walk n) (record { labels = λ q. refl; unused = refl }))
 
-pub odd_size-mapped : (f : ℕ → ℕ) (ls : List ℕ) → odd_size (map f ls) ≤ odd_size ls
+pub odd_size-mapped : (f : ℕ → ℕ) (ls : List ℕ) → odd_label_count (map f ls) ≤ odd_label_count ls
 odd_size-mapped f ls = odd_size-map f ls (map f ls) refl
 
 pub odd_paths-mapped : (f : ℕ → ℕ) (n m : ℕ) (old new : List Gate) → ((l : ℕ) → is_odd l (odd_sets new (own_labels m) m) ≡ is_odd l (map f (odd_sets old (own_labels n) n))) → odd_paths m (ops new) ≤ odd_paths n (ops old)
 odd_paths-mapped f n m old new h =
-    let a : odd_size (odd_sets new (own_labels m) m) ≤ odd_size (odd_sets old (own_labels n) n) =
+    let a : odd_label_count (odd_sets new (own_labels m) m) ≤ odd_label_count (odd_sets old (own_labels n) n) =
     odd_size-map f (odd_sets old (own_labels n) n) (odd_sets new (own_labels m) m) (par_from_odd (odd_sets new (own_labels m) m) (map f (odd_sets old (own_labels n) n)) h) in
     omega (arith, a, odd_paths-sets new m, odd_paths-sets old n)
 
 -- where no label stands twice, each is left
-pub odd_size-once : (ls : List ℕ) → IsOnce ls → odd_size ls ≡ length ls
+pub odd_size-once : (ls : List ℕ) → IsOnce ls → odd_label_count ls ≡ length ls
 odd_size-once ls h =
-    let a : odd_size ls ≤ length ls = odd_size-shortest ls ls refl in
-    let b : length ls ≤ odd_size ls = shortest ls (toggled_all ls []) h (sym (par-toggled_all ls)) in
+    let a : odd_label_count ls ≤ length ls = odd_size-shortest ls ls refl in
+    let b : length ls ≤ odd_label_count ls = shortest ls (toggled_all ls []) h (sym (par-toggled_all ls)) in
     omega arith
 
 -- ---- events
-events-toggled : (es : List Event) (ls : Labels) (n : ℕ) (s : List ℕ) → events_set es ls n s ≡ toggled_all (toggled_labels es ls (λ v. 2 ^ v) n) s
+events-toggled : (es : List PathEvent) (ls : Labels) (n : ℕ) (s : List ℕ) → events_set es ls n s ≡ toggled_all (toggled_labels es ls (λ v. 2 ^ v) n) s
 events-toggled [] ls n s = refl
 events-toggled (Toggle q ∷ es) ls n s = events-toggled es ls n (toggle (ls q) s)
 events-toggled (Fresh q ∷ es) ls n s = events-toggled es (paths.relabel ls q (2 ^ n)) (n + 1) s
 events-toggled (Add c t ∷ es) ls n s = events-toggled es (paths.relabel ls t (bit_xor (ls t) (ls c))) n s
 
-pub odd_paths-toggled : (n : ℕ) (us : List Op) → odd_paths n us ≡ odd_size (toggled_labels (events us) (own_variables n) (λ v. 2 ^ v) n)
+pub odd_paths-toggled : (n : ℕ) (us : List Op) → odd_paths n us ≡ odd_label_count (toggled_labels (events us) (own_variables n) (λ v. 2 ^ v) n)
 odd_paths-toggled n us = odd_paths-events n us ∙ ap (λ (s : List ℕ). length s) (events-toggled (events us) (own_variables n) n [])
 
 after-relabel : (f : ℕ → ℕ) (ls : Labels) (q l : ℕ) → paths.relabel (λ p. f (ls p)) q (f l) ≡ (λ p. f (paths.relabel ls q l p))
@@ -206,7 +206,7 @@ after-relabel f ls q l = fun_ext (λ p. inside (nat_eq p q) (ls p))
     inside false k = refl
 
 -- a linear map carries the labels along
-toggled-carried : (f : ℕ → ℕ) → IsLinear f → (es : List Event) (ls : Labels) (new : ℕ → ℕ) (n : ℕ) → toggled_labels es (λ q. f (ls q)) (λ v. f (new v)) n ≡ map f (toggled_labels es ls new n)
+toggled-carried : (f : ℕ → ℕ) → IsLinear f → (es : List PathEvent) (ls : Labels) (new : ℕ → ℕ) (n : ℕ) → toggled_labels es (λ q. f (ls q)) (λ v. f (new v)) n ≡ map f (toggled_labels es ls new n)
 toggled-carried f h [] ls new n = refl
 toggled-carried f h (Toggle q ∷ es) ls new n = ap (λ r. f (ls q) ∷ r) (toggled-carried f h es ls new n)
 toggled-carried f h (Fresh q ∷ es) ls new n = ap (λ (r : Labels). toggled_labels es r (λ v. f (new v)) (n + 1)) (after-relabel f ls q (new n)) ∙ toggled-carried f h es (paths.relabel ls q (new n)) new (n + 1)
@@ -214,5 +214,5 @@ toggled-carried f h (Add c t ∷ es) ls new n =
     ap (λ (r : Labels). toggled_labels es r (λ v. f (new v)) n) (ap (paths.relabel (λ p. f (ls p)) t) (sym (h (ls t) (ls c))) ∙ after-relabel f ls t (bit_xor (ls t) (ls c)))
     ∙ toggled-carried f h es (paths.relabel ls t (bit_xor (ls t) (ls c))) new n
 
-pub odd_size-carried : (f : ℕ → ℕ) → IsLinear f → (es : List Event) (ls : Labels) (new : ℕ → ℕ) (n : ℕ) → odd_size (toggled_labels es (λ q. f (ls q)) (λ v. f (new v)) n) ≤ odd_size (toggled_labels es ls new n)
+pub odd_size-carried : (f : ℕ → ℕ) → IsLinear f → (es : List PathEvent) (ls : Labels) (new : ℕ → ℕ) (n : ℕ) → odd_label_count (toggled_labels es (λ q. f (ls q)) (λ v. f (new v)) n) ≤ odd_label_count (toggled_labels es ls new n)
 odd_size-carried f h es ls new n = odd_size-map f (toggled_labels es ls new n) (toggled_labels es (λ q. f (ls q)) (λ v. f (new v)) n) (ap par (toggled-carried f h es ls new n))

@@ -23,27 +23,27 @@ use Rattle.std.proofs.lemmas.Bool.Decides.{nat_tests}
 use Rattle.std.proofs.lemmas.List.{get_or_past}
 use Rattle.std.proofs.lemmas.Nat.{pow-add, pow_pos, xor_lt}
 use Rattle.std.proofs.lemmas.Nat.Bits.{bit_at_xor, bit_at-zero, bit_at_cat_low, bit_at_cat_high, same_from_bits}
-use Rattle.path_parity.specs.Sets.{number_of, set_of, IsRow, IsPacked, first_place, places_end, word_at}
+use Rattle.path_parity.specs.Sets.{set_number, set_of, IsRow, IsPacked, first_word_place, places_end, word_at}
 
 -- ---- bits
 abbrev Words : List ℕ → Type 0
 Words words = (k : ℕ) → get_or words k 0 < 2 ^ 64
 
-bit_at-number : (words : List ℕ) (v : ℕ) → Words words → bit_at (number_of words) v ≡ bit_at (get_or words (v / 64) 0) (v % 64)
+bit_at-number : (words : List ℕ) (v : ℕ) → Words words → bit_at (set_number words) v ≡ bit_at (get_or words (v / 64) 0) (v % 64)
 bit_at-number [] v f = bit_at-zero v ∙ sym (bit_at-zero (v % 64))
 bit_at-number (x ∷ words) v f = go (cases_lt v 64) (bit_at-number words (v - 64) (λ j. f (suc j)))
   where
-    go : (v < 64) ⊎ (64 ≤ v) → bit_at (number_of words) (v - 64) ≡ bit_at (get_or words ((v - 64) / 64) 0) ((v - 64) % 64)
-        → bit_at (number_of words * 2 ^ 64 + x) v ≡ bit_at (get_or (x ∷ words) (v / 64) 0) (v % 64)
+    go : (v < 64) ⊎ (64 ≤ v) → bit_at (set_number words) (v - 64) ≡ bit_at (get_or words ((v - 64) / 64) 0) ((v - 64) % 64)
+        → bit_at (set_number words * 2 ^ 64 + x) v ≡ bit_at (get_or (x ∷ words) (v / 64) 0) (v % 64)
     go (inl l) h =
         let q : v / 64 ≡ 0 = omega arith in
         let r : v % 64 ≡ v = omega arith in
-        bit_at_cat_low (number_of words) 64 x v l
+        bit_at_cat_low (set_number words) 64 x v l
         ∙ ap (λ k. bit_at x k) (sym r) ∙ ap (λ k. bit_at (get_or (x ∷ words) k 0) (v % 64)) (sym q)
     go (inr l) h =
         let q : v / 64 ≡ suc ((v - 64) / 64) = omega arith in
         let r : v % 64 ≡ (v - 64) % 64 = omega arith in
-        bit_at_cat_high (number_of words) 64 x v (f 0) l ∙ h
+        bit_at_cat_high (set_number words) 64 x v (f 0) l ∙ h
         ∙ ap (λ k. bit_at (get_or words ((v - 64) / 64) 0) k) (sym r) ∙ ap (λ k. bit_at (get_or (x ∷ words) k 0) (v % 64)) (sym q)
 
 abbrev pub Wide : List ℕ → Type 0
@@ -65,19 +65,19 @@ word-past row p l = word-from row p (omega arith) ∙ get_or_past row (p - get_o
 
 pub bit_at-set : (row : List ℕ) (v : ℕ) → Wide row → bit_at (set_of row) v ≡ bit_at (word_at row (v / 64)) (v % 64)
 bit_at-set [] v f = bit_at-zero v ∙ sym (bit_at-zero (v % 64)) ∙ ap (λ w. bit_at w (v % 64)) (sym (word-past [] (v / 64) (omega arith)))
-bit_at-set (from ∷ words) v f = ap (λ n. bit_at n v) (sym (add-zero (number_of words * 2 ^ (64 * from)))) ∙ go (cases_lt v (64 * from))
+bit_at-set (from ∷ words) v f = ap (λ n. bit_at n v) (sym (add-zero (set_number words * 2 ^ (64 * from)))) ∙ go (cases_lt v (64 * from))
   where
     next : (n k : ℕ) → n ≡ k → suc n ≡ k + 1
     next n k e = omega arith
 
-    go : (v < 64 * from) ⊎ (64 * from ≤ v) → bit_at (number_of words * 2 ^ (64 * from) + 0) v ≡ bit_at (word_at (from ∷ words) (v / 64)) (v % 64)
+    go : (v < 64 * from) ⊎ (64 * from ≤ v) → bit_at (set_number words * 2 ^ (64 * from) + 0) v ≡ bit_at (word_at (from ∷ words) (v / 64)) (v % 64)
     go (inl l) =
-        bit_at_cat_low (number_of words) (64 * from) 0 v l ∙ bit_at-zero v
+        bit_at_cat_low (set_number words) (64 * from) 0 v l ∙ bit_at-zero v
         ∙ sym (bit_at-zero (v % 64)) ∙ ap (λ w. bit_at w (v % 64)) (sym (word-before (from ∷ words) (v / 64) (omega arith)))
     go (inr l) =
         let q : (v - 64 * from) / 64 ≡ v / 64 - from = omega arith in
         let r : (v - 64 * from) % 64 ≡ v % 64 = omega arith in
-        bit_at_cat_high (number_of words) (64 * from) 0 v (pow_pos (64 * from)) l ∙ bit_at-number words (v - 64 * from) f
+        bit_at_cat_high (set_number words) (64 * from) 0 v (pow_pos (64 * from)) l ∙ bit_at-number words (v - 64 * from) f
         ∙ ap (λ k. bit_at (get_or words ((v - 64 * from) / 64) 0) k) r
         ∙ ap (λ k. bit_at (get_or (from ∷ words) k 0) (v % 64)) (next ((v - 64 * from) / 64) (v / 64 - from) q)
         ∙ ap (λ w. bit_at w (v % 64)) (sym (word-from (from ∷ words) (v / 64) (omega arith)))
@@ -91,14 +91,14 @@ set_of-xor xs ys zs f g h e = same_from_bits (set_of zs) (bit_xor (set_of xs) (s
 last_word : (w : ℕ) (words : List ℕ) → get_or (w ∷ words) (length (w ∷ words) - 1) 0 ≡ get_or (w ∷ words) (length words) 0
 last_word w words = let e : length (w ∷ words) - 1 ≡ length words = omega arith in ap (λ k. get_or (w ∷ words) k 0) e
 
-some : (words : List ℕ) → 0 < get_or words (length words - 1) 0 → 0 < number_of words
+some : (words : List ℕ) → 0 < get_or words (length words - 1) 0 → 0 < set_number words
 some [] l = l
 some (w ∷ []) l = omega (arith, last_word w [])
 some (w ∷ v ∷ words) l =
-    let rest : 0 < number_of (v ∷ words) = some (v ∷ words) (omega (arith, last_word w (v ∷ words), last_word v words)) in
+    let rest : 0 < set_number (v ∷ words) = some (v ∷ words) (omega (arith, last_word w (v ∷ words), last_word v words)) in
     omega arith
 
-same_words : (xs ys : List ℕ) → Words xs → Words ys → (0 < length xs → 0 < get_or xs (length xs - 1) 0) → (0 < length ys → 0 < get_or ys (length ys - 1) 0) → number_of xs ≡ number_of ys → xs ≡ ys
+same_words : (xs ys : List ℕ) → Words xs → Words ys → (0 < length xs → 0 < get_or xs (length xs - 1) 0) → (0 < length ys → 0 < get_or ys (length ys - 1) 0) → set_number xs ≡ set_number ys → xs ≡ ys
 same_words [] [] f g l m e = refl
 same_words [] (y ∷ ys) f g l m e = absurd (omega (arith, some (y ∷ ys) (m (omega arith)), e))
 same_words (x ∷ xs) [] f g l m e = absurd (omega (arith, some (x ∷ xs) (l (omega arith)), e))
@@ -106,7 +106,7 @@ same_words (x ∷ xs) (y ∷ ys) f g l m e =
     let lt : x < 2 ^ 64 = f 0 in
     let gt : y < 2 ^ 64 = g 0 in
     let first : x ≡ y = omega arith in
-    let others : number_of xs ≡ number_of ys = omega arith in
+    let others : set_number xs ≡ set_number ys = omega arith in
     λ i. first i ∷ same_words xs ys (λ k. f (suc k)) (λ k. g (suc k)) (still x xs (l (omega arith))) (still y ys (m (omega arith))) others i
   where
     still : (w : ℕ) (words : List ℕ) → 0 < get_or (w ∷ words) (length (w ∷ words) - 1) 0 → 0 < length words → 0 < get_or words (length words - 1) 0
@@ -117,7 +117,7 @@ cancel : (p a b : ℕ) → 0 < p → a * p ≡ b * p → a ≡ b
 cancel p a b l e = sym (mul-div_cancel a l) ∙ ap (λ m. m / p) e ∙ mul-div_cancel b l
 
 -- a row that begins later has another number
-later : (f g : ℕ) (xs ys : List ℕ) → f < g → 0 < get_or xs 0 0 → Words xs → number_of xs * 2 ^ (64 * f) ≡ number_of ys * 2 ^ (64 * g) → ⊥
+later : (f g : ℕ) (xs ys : List ℕ) → f < g → 0 < get_or xs 0 0 → Words xs → set_number xs * 2 ^ (64 * f) ≡ set_number ys * 2 ^ (64 * g) → ⊥
 later f g [] ys lt l w e = absurd (omega arith)
 later f g (x ∷ xs) ys lt l w e =
     let small : x < 2 ^ 64 = w 0 in
@@ -125,18 +125,18 @@ later f g (x ∷ xs) ys lt l w e =
     let p : 2 ^ (64 * g) ≡ 2 ^ (64 * (g - f - 1)) * 2 ^ 64 * 2 ^ (64 * f) =
     ap (λ k. 2 ^ k) n ∙ pow-add 2 (64 * (g - f - 1) + 64) (64 * f) ∙ ap (λ k. k * 2 ^ (64 * f)) (pow-add 2 (64 * (g - f - 1)) 64) in
     whole (2 ^ (64 * (g - f - 1))) small
-    (cancel (2 ^ (64 * f)) (number_of xs * 2 ^ 64 + x) (number_of ys * (2 ^ (64 * (g - f - 1)) * 2 ^ 64)) (pow_pos (64 * f))
-    (e ∙ ap (λ k. number_of ys * k) p ∙ sym (mul_assoc (number_of ys) (2 ^ (64 * (g - f - 1)) * 2 ^ 64) (2 ^ (64 * f)))))
+    (cancel (2 ^ (64 * f)) (set_number xs * 2 ^ 64 + x) (set_number ys * (2 ^ (64 * (g - f - 1)) * 2 ^ 64)) (pow_pos (64 * f))
+    (e ∙ ap (λ k. set_number ys * k) p ∙ sym (mul_assoc (set_number ys) (2 ^ (64 * (g - f - 1)) * 2 ^ 64) (2 ^ (64 * f)))))
   where
-    whole : (q : ℕ) → x < 2 ^ 64 → number_of xs * 2 ^ 64 + x ≡ number_of ys * (q * 2 ^ 64) → ⊥
-    whole q small h = let r : number_of xs * 2 ^ 64 + x ≡ number_of ys * q * 2 ^ 64 = h ∙ sym (mul_assoc (number_of ys) q (2 ^ 64)) in multiple (number_of ys * q) r
+    whole : (q : ℕ) → x < 2 ^ 64 → set_number xs * 2 ^ 64 + x ≡ set_number ys * (q * 2 ^ 64) → ⊥
+    whole q small h = let r : set_number xs * 2 ^ 64 + x ≡ set_number ys * q * 2 ^ 64 = h ∙ sym (mul_assoc (set_number ys) q (2 ^ 64)) in multiple (set_number ys * q) r
       where
-        multiple : (m : ℕ) → number_of xs * 2 ^ 64 + x ≡ m * 2 ^ 64 → ⊥
+        multiple : (m : ℕ) → set_number xs * 2 ^ 64 + x ≡ m * 2 ^ 64 → ⊥
         multiple m r = omega arith
 
 no_set : (from : ℕ) (words : List ℕ) → IsRow from words → 0 ≡ set_of (from ∷ words) → ⊥
 no_set from words h e =
-    let none : 0 ≡ number_of words = cancel (2 ^ (64 * from)) 0 (number_of words) (pow_pos (64 * from)) (zero_times (2 ^ (64 * from)) ∙ e) in
+    let none : 0 ≡ set_number words = cancel (2 ^ (64 * from)) 0 (set_number words) (pow_pos (64 * from)) (zero_times (2 ^ (64 * from)) ∙ e) in
     omega (arith, some words h.last)
   where
     zero_times : (p : ℕ) → 0 * p ≡ 0
@@ -153,7 +153,7 @@ set-same (x ∷ xs) (y ∷ ys) f g e = go (cases_lt x y) (cases_lt y x)
     go (inr le) (inl lt) = absurd (later y x ys xs lt g.first g.fits (sym e))
     go (inr a) (inr b) =
         let same : x ≡ y = omega arith in
-        let number : number_of xs ≡ number_of ys = cancel (2 ^ (64 * y)) (number_of xs) (number_of ys) (pow_pos (64 * y)) (ap (λ z. number_of xs * 2 ^ (64 * z)) (sym same) ∙ e) in
+        let number : set_number xs ≡ set_number ys = cancel (2 ^ (64 * y)) (set_number xs) (set_number ys) (pow_pos (64 * y)) (ap (λ z. set_number xs * 2 ^ (64 * z)) (sym same) ∙ e) in
         λ i. same i ∷ same_words xs ys f.fits g.fits (λ l. f.last) (λ l. g.last) number i
 
 -- ---- one variable
@@ -170,7 +170,7 @@ pub record IsBetween (xs ys : List ℕ) (a b : ℕ) : Type 0 where
   pub before : (p : ℕ) → p < a → word_at xs p ≡ word_at ys p
   pub after : (p : ℕ) → b ≤ p → word_at xs p ≡ word_at ys p
 
-pub between-start : (xs ys : List ℕ) (a b : ℕ) → a ≤ first_place xs → a ≤ first_place ys → places_end xs ≤ b → places_end ys ≤ b → IsBetween xs ys a b
+pub between-start : (xs ys : List ℕ) (a b : ℕ) → a ≤ first_word_place xs → a ≤ first_word_place ys → places_end xs ≤ b → places_end ys ≤ b → IsBetween xs ys a b
 between-start xs ys a b f g h k = record {
   before = λ p l. word-before xs p (omega arith) ∙ sym (word-before ys p (omega arith));
   after = λ p l. word-past xs p (omega arith) ∙ sym (word-past ys p (omega arith));
@@ -193,7 +193,7 @@ between-back xs ys a b s e h = record { before = h.before; after = λ p l. go p 
 nothing : (a b : ℕ) → a ≡ b → 0 ≡ bit_xor a b
 nothing a b e = sym (xor_self b) ∙ ap (λ z. bit_xor z b) (sym e)
 
-pub between-set : (xs ys zs : List ℕ) (a b : ℕ) → Wide xs → Wide ys → Wide zs → IsBetween xs ys a b → first_place zs ≡ a → places_end zs ≡ b →
+pub between-set : (xs ys zs : List ℕ) (a b : ℕ) → Wide xs → Wide ys → Wide zs → IsBetween xs ys a b → first_word_place zs ≡ a → places_end zs ≡ b →
     ((p : ℕ) → a ≤ p → p < b → word_at zs p ≡ bit_xor (word_at xs p) (word_at ys p)) → set_of zs ≡ bit_xor (set_of xs) (set_of ys)
 between-set xs ys zs a b f g h k s t e = set_of-xor xs ys zs f g h (λ p. go p (cases_lt p a) (cases_lt p b))
   where
@@ -220,7 +220,7 @@ differs a b ne = go (cases_lt 0 (bit_xor a b))
     go (inl l) = l
     go (inr l) = let e : bit_xor a b ≡ 0 = omega arith in absurd (ne (same e))
 
-pub between-packed : (xs ys zs : List ℕ) (a b : ℕ) → Wide zs → first_place zs ≡ a → places_end zs ≡ b → a < b → b ≤ 2 ^ 58 →
+pub between-packed : (xs ys zs : List ℕ) (a b : ℕ) → Wide zs → first_word_place zs ≡ a → places_end zs ≡ b → a < b → b ≤ 2 ^ 58 →
     ((p : ℕ) → a ≤ p → p < b → word_at zs p ≡ bit_xor (word_at xs p) (word_at ys p)) →
     (word_at xs a ≡ word_at ys a → ⊥) → (word_at xs (b - 1) ≡ word_at ys (b - 1) → ⊥) → IsPacked zs
 between-packed xs ys [] a b f s t l m e front back = tt
@@ -261,7 +261,7 @@ pub added-word : (old new set : List ℕ) (gap skip many p : ℕ) → gap ≡ 1 
     many ≡ min (length old - gap) (length set - skip) → 0 < length set →
     ((j : ℕ) → j < gap → get_or new j 0 ≡ get_or old j 0) → ((j : ℕ) → j < many → get_or new (gap + j) 0 ≡ bit_xor (get_or old (gap + j) 0) (get_or set (skip + j) 0)) →
     ((j : ℕ) → gap + many ≤ j → get_or new j 0 ≡ get_or old j 0) →
-    first_place old ≤ p → p < places_end old → word_at new p ≡ bit_xor (word_at old p) (word_at set p)
+    first_word_place old ≤ p → p < places_end old → word_at new p ≡ bit_xor (word_at old p) (word_at set p)
 added-word old new set gap skip many p g s m some before added after from below =
     let same : get_or new 0 0 ≡ get_or old 0 0 = before 0 (omega arith) in
     word-from new p (omega arith) ∙ (λ i. get_or new (p - same i + 1) 0)
@@ -283,7 +283,7 @@ added-word old new set gap skip many p g s m some before added after from below 
 
 pub record IsSum (xs ys zs : List ℕ) (a b : ℕ) : Type 0 where
   pub wide : Wide zs
-  pub first : first_place zs ≡ a
+  pub first : first_word_place zs ≡ a
   pub end : places_end zs ≡ b
   pub words : (p : ℕ) → a ≤ p → p < b → word_at zs p ≡ bit_xor (word_at xs p) (word_at ys p)
 

@@ -17,7 +17,7 @@ use Rattle.unitary_model.specs.Amplitude.{bit_of, same_bits, one_plus}
 use Rattle.unitary_model.specs.Placement.{identity}
 use Rattle.unitary_model.specs.Ring.{Ring, unit, turn, double}
 use Rattle.unitary_model.specs.Sums.{sum_over, all_bits}
-use Rattle.path_parity.specs.PathSum.{value, own_labels, last_labels, exponent}
+use Rattle.path_parity.specs.PathSum.{label_value, own_labels, last_labels, exponent}
 
 abbrev pub variables : ℕ → List Gate → ℕ
 variables n gs = h_count gs + n
@@ -26,7 +26,7 @@ abbrev pub paths_from : ℕ → List Gate → List Bool → List (List Bool)
 paths_from n gs x = map (λ z. x ++ z) (all_bits (h_count gs))
 
 abbrev pub path_end : ℕ → List Gate → List Bool → List Bool
-path_end n gs v = map (λ q. value (variables n gs) (bit_of v) (last_labels gs (own_labels n) n q)) (identity n)
+path_end n gs v = map (λ q. label_value (variables n gs) (bit_of v) (last_labels gs (own_labels n) n q)) (identity n)
 
 abbrev pub paths : ℕ → List Gate → List Bool → List Bool → List (List Bool)
 paths n gs x y = filter (λ v. same_bits (path_end n gs v) y) (paths_from n gs x)

@@ -1,6 +1,6 @@
 -- Working form. The path sum on functions of all bits.
 --     hcount gs           the number of H
---     over h n K v        the sum of K over all values of the h variables from n on, the others as in v
+--     summed_over h n K v  the sum of K over all values of the h variables from n on, the others as in v
 --     norm gs r           2^m (1 + w^2)^h r, with m the number of X and P in gs and h the number of H
 use Rattle.std.specs.Prelude.{ℕ, zero, suc, true, false, List, [], ◌∷◌}
 use Rattle.circuit_list.specs.declared.Gate.{Gate}
@@ -15,9 +15,9 @@ hcount (X q ∷ gs) = hcount gs
 hcount (P k q ∷ gs) = hcount gs
 hcount (Cx c t ∷ gs) = hcount gs
 
-abbrev pub over : ℕ → ℕ → (Bits → Ring) → Bits → Ring
-over zero n K v = K v
-over (suc h) n K v = plus (over h (suc n) K (put v n false)) (over h (suc n) K (put v n true))
+abbrev pub summed_over : ℕ → ℕ → (Bits → Ring) → Bits → Ring
+summed_over zero n K v = K v
+summed_over (suc h) n K v = plus (summed_over h (suc n) K (put v n false)) (summed_over h (suc n) K (put v n true))
 
 abbrev pub norm : List Gate → Ring → Ring
 norm [] r = r

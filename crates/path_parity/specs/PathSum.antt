@@ -4,7 +4,7 @@
 --     label m b           the label with the set m and the bit b
 --     xor a b             the sum modulo 2
 --     odd_over N v m      the sum modulo 2 of the values v of those variables below N that are in m
---     value N v l         the value of a label, where N variables have the values v
+--     label_value N v l   the value of a label, where N variables have the values v
 --     Wires               the label of each wire
 --     with_label w q l    the labels w, but l at wire q
 --     add_labels k l      the symmetric difference of the sets, and the sum of the bits
@@ -17,7 +17,7 @@
 --     phase_label g w     the label at a P, no label at another gate
 --     phase_labels gs w n the label at each P of a list, in order
 --     exponent N v gs w n the power of w that a path collects, where N variables have the values v: at each P(k) on a wire of
---                         value 1 it is k, at each X it is 2, and at each H whose wire has value 1 before and after it is 4
+--                         label_value 1 it is k, at each X it is 2, and at each H whose wire has label_value 1 before and after it is 4
 use Rattle.std.specs.Prelude.{ℕ, zero, suc, ◌+◌, ◌^◌, Bool, true, false, not, cond, List, [], ◌∷◌, ◌++◌, nat_eq, bit_xor}
 use Rattle.std.specs.Int.{bit_at}
 use Rattle.circuit_list.specs.declared.Gate.{Gate}
@@ -40,8 +40,8 @@ abbrev pub odd_over : ℕ → Bits → ℕ → Bool
 odd_over zero v m = false
 odd_over (suc n) v m = xor (odd_over n v m) (cond (nat_eq (bit_at m n) 1) (v n) false)
 
-abbrev pub value : ℕ → Bits → PathLabel → Bool
-value n v l = xor (odd_over n v l.variables) l.bit
+abbrev pub label_value : ℕ → Bits → PathLabel → Bool
+label_value n v l = xor (odd_over n v l.variables) l.bit
 
 abbrev pub Wires : Type 0
 Wires = ℕ → PathLabel
@@ -89,7 +89,7 @@ phase_labels (g ∷ gs) w n = phase_label g w ++ phase_labels gs (labels_after g
 
 abbrev pub exponent : ℕ → Bits → List Gate → Wires → ℕ → ℕ
 exponent N v [] w n = 0
-exponent N v (H q ∷ gs) w n = exponent N v gs (with_label w q (fresh n)) (suc n) + cond (value N v (w q)) (cond (v n) 4 0) 0
+exponent N v (H q ∷ gs) w n = exponent N v gs (with_label w q (fresh n)) (suc n) + cond (label_value N v (w q)) (cond (v n) 4 0) 0
 exponent N v (X q ∷ gs) w n = exponent N v gs (with_label w q (flipped (w q))) n + 2
-exponent N v (P k q ∷ gs) w n = exponent N v gs w n + cond (value N v (w q)) k 0
+exponent N v (P k q ∷ gs) w n = exponent N v gs w n + cond (label_value N v (w q)) k 0
 exponent N v (Cx c t ∷ gs) w n = exponent N v gs (with_label w t (add_labels (w t) (w c))) n

@@ -3,7 +3,7 @@
 ghost use Rattle.std.specs.Prelude.{◌≡◌, ℕ, List, [], OnOk, length};
 ghost use Rattle.circuit_list.specs.Gates.{IsFine};
 ghost use Rattle.path_parity.specs.LabelWalks.{labels_at};
-ghost use Rattle.path_parity.specs.OddLabels.{odd_set, toggled_all};
+ghost use Rattle.path_parity.specs.OddLabels.{odd_label, toggled_all};
 ghost use Rattle.path_parity.specs.OddSets.{IsOddSet};
 ghost use Rattle.path_parity.specs.Sets.{IsPacked, set_of};
 ghost use Rattle.unitary_model.specs.OddPaths.{toggle};
@@ -50,7 +50,7 @@ impl OddSet {
     /// Puts the set of the label at a P with an odd `k` in, or takes it out.
     pub fn toggle_at(&mut self, alloc: Global, walk: &Walk, gate: Gate) -> Result<(), AllocError>
         requires fine { IsFine (length walk.now.labels) gate }
-        ensures toggled { OnOk result ((s : List ℕ) → IsOddSet self.old s → IsOddSet self.new (toggled_all (odd_set gate (labels_at walk.now)) s)) }
+        ensures toggled { OnOk result ((s : List ℕ) → IsOddSet self.old s → IsOddSet self.new (toggled_all (odd_label gate (labels_at walk.now)) s)) }
     {
         match gate {
             Gate::P { k, q } => {

@@ -32,7 +32,7 @@ use Rattle.path_sums.proofs.CollectLaws.{equal, own, same_row}
 use Rattle.path_sums.proofs.TouchedLaws.{counts-set, labels-put, seen-set}
 use Rattle.path_sums.proofs.SparseLaws.{compact-same}
 use Rattle.path_sums.specs.Names.{counts, labels_on, place_in}
-use Rattle.path_sums.specs.Sums.{AreRows, IsCompact, IsWalk, NamedWalk, Passes, befores, compact_set}
+use Rattle.path_sums.specs.Sums.{AreSetRows, IsCompact, IsNamedWalk, NamedWalk, PassesGate, befores, compact_set}
 
 -- ---- numbers
 differ : (m s : ℕ) → (m ≡ s → ⊥) → nat_eq m s ≡ false
@@ -50,7 +50,7 @@ pub befores-push : (es : List (ℕ × Vec ℕ Global)) (v : ℕ) (row : Vec ℕ 
 befores-push [] v row = refl
 befores-push (e ∷ es) v row = ap (λ hs. (e.0, compact_set e.1.items) ∷ hs) (befores-push es v row)
 
-pub AreRows-push : (es : List (ℕ × Vec ℕ Global)) (v : ℕ) (row : Vec ℕ Global) → AreRows es → IsCompact row.items → AreRows (es ++ (v, row) ∷ [])
+pub AreRows-push : (es : List (ℕ × Vec ℕ Global)) (v : ℕ) (row : Vec ℕ Global) → AreSetRows es → IsCompact row.items → AreSetRows (es ++ (v, row) ∷ [])
 AreRows-push [] v row h p = (p, tt)
 AreRows-push (e ∷ es) v row h p = (h.0, AreRows-push es v row h.1 p)
 
@@ -89,8 +89,8 @@ other_variable n a b q p lt mt e = (
 )
 
 pub IsWalk-had : (n : ℕ) (ws : List ℕ) (labels more : List Label) (seen : List ℕ) (es : List (ℕ × Vec ℕ Global)) (q : ℕ) (row : Vec ℕ Global) →
-    IsWalk n ws labels seen es → q < n → list_any (nat_eq q) ws ≡ true → IsCompact row.items → length more ≡ length ws → All IsLabel more →
-    IsWalk n ws more (set seen (place_in ws q) (suc (counts ws seen q))) (es ++ (suc (counts ws seen q) * n + q, row) ∷ [])
+    IsNamedWalk n ws labels seen es → q < n → list_any (nat_eq q) ws ≡ true → IsCompact row.items → length more ≡ length ws → All IsLabel more →
+    IsNamedWalk n ws more (set seen (place_in ws q) (suc (counts ws seen q))) (es ++ (suc (counts ws seen q) * n + q, row) ∷ [])
 IsWalk-had n ws labels more seen es q row h lt on packed long each = record {
   below = h.below;
   distinct = h.distinct;
@@ -122,7 +122,7 @@ IsSome-row : Option (Vec ℕ Global) → Type 0
 IsSome-row None = Unit {0}
 IsSome-row (Some row) = IsCompact row.items
 
-looked : (es : List (ℕ × Vec ℕ Global)) (v : ℕ) → AreRows es → IsSome-row (lookup (nat_eq v) es)
+looked : (es : List (ℕ × Vec ℕ Global)) (v : ℕ) → AreSetRows es → IsSome-row (lookup (nat_eq v) es)
 unfolding IsSome-row
 looked [] v h = tt
 looked (e ∷ es) v h = go (nat_eq v e.0) (looked es v h.1)
@@ -147,7 +147,7 @@ agreed (Some x) (Some y) f g e = let same : compact_set x.items ≡ compact_set 
 pub same-before : {S : Type 0} (m n : IndexMap ℕ (Vec ℕ Global) S) → hash_map_eq nat_eq same_row m n ≡ true → (v : ℕ) → set_before v (befores m.entries) ≡ set_before v (befores n.entries)
 same-before m n h v = before-lookup m.entries v ∙ agree (lookup (nat_eq v) m.entries) (lookup (nat_eq v) n.entries) (get_from_hash_map_eq nat_eq same_row nat_eq_equiv m n h v) ∙ sym (before-lookup n.entries v)
 
-pub before-same : {S : Type 0} (m n : IndexMap ℕ (Vec ℕ Global) S) → AreRows m.entries → AreRows n.entries → ((v : ℕ) → set_before v (befores m.entries) ≡ set_before v (befores n.entries)) →
+pub before-same : {S : Type 0} (m n : IndexMap ℕ (Vec ℕ Global) S) → AreSetRows m.entries → AreSetRows n.entries → ((v : ℕ) → set_before v (befores m.entries) ≡ set_before v (befores n.entries)) →
     hash_map_eq nat_eq same_row m n ≡ true
 before-same m n f g h = hash_map_eq_from_get nat_eq same_row m n
     (λ v. agreed (lookup (nat_eq v) m.entries) (lookup (nat_eq v) n.entries) (looked m.entries v f) (looked n.entries v g) (sym (before-lookup m.entries v) ∙ h v ∙ before-lookup n.entries v))
@@ -160,7 +160,7 @@ pub label-here : (labels : List Label) (q : ℕ) (l : Label) → q < length labe
 label-here labels q l lt e = ap label_of e ∙ sym (get_or-map label_of labels q l (label 0 false) lt)
 
 pub passes-x : (n : ℕ) (r : ℕ → ℕ) (ws : List ℕ) (labels : List Label) (seen : List ℕ) (es : List (ℕ × Vec ℕ Global)) (q : ℕ) (l : Label) → list_any (nat_eq q) ws ≡ true → length labels ≡ length ws →
-    label_of l ≡ flipped (labels_on n ws (map label_of labels) q) → Passes r (X q) (viewed n ws labels seen es) (viewed n ws (set labels (place_in ws q) l) seen es)
+    label_of l ≡ flipped (labels_on n ws (map label_of labels) q) → PassesGate r (X q) (viewed n ws labels seen es) (viewed n ws (set labels (place_in ws q) l) seen es)
 passes-x n r ws labels seen es q l on long e = record {
   wires = refl;
   touched = refl;
@@ -170,7 +170,7 @@ passes-x n r ws labels seen es q l on long e = record {
 }
 
 pub passes-cx : (n : ℕ) (r : ℕ → ℕ) (ws : List ℕ) (labels : List Label) (seen : List ℕ) (es : List (ℕ × Vec ℕ Global)) (c t : ℕ) (l : Label) → list_any (nat_eq t) ws ≡ true → length labels ≡ length ws →
-    label_of l ≡ add_labels (labels_on n ws (map label_of labels) t) (labels_on n ws (map label_of labels) c) → Passes r (Cx c t) (viewed n ws labels seen es) (viewed n ws (set labels (place_in ws t) l) seen es)
+    label_of l ≡ add_labels (labels_on n ws (map label_of labels) t) (labels_on n ws (map label_of labels) c) → PassesGate r (Cx c t) (viewed n ws labels seen es) (viewed n ws (set labels (place_in ws t) l) seen es)
 passes-cx n r ws labels seen es c t l on long e = record {
   wires = refl;
   touched = refl;
@@ -181,7 +181,7 @@ passes-cx n r ws labels seen es c t l on long e = record {
 
 pub passes-h : (n : ℕ) (r : ℕ → ℕ) (ws : List ℕ) (labels : List Label) (seen : List ℕ) (es : List (ℕ × Vec ℕ Global)) (q : ℕ) (l : Label) (row : Vec ℕ Global) → list_any (nat_eq q) ws ≡ true →
     length labels ≡ length ws → length seen ≡ length ws → label_of l ≡ fresh (r (suc (counts ws seen q) * n + q)) → compact_set row.items ≡ (labels_on n ws (map label_of labels) q).variables →
-    Passes r (H q) (viewed n ws labels seen es) (viewed n ws (set labels (place_in ws q) l) (set seen (place_in ws q) (suc (counts ws seen q))) (es ++ (suc (counts ws seen q) * n + q, row) ∷ []))
+    PassesGate r (H q) (viewed n ws labels seen es) (viewed n ws (set labels (place_in ws q) l) (set seen (place_in ws q) (suc (counts ws seen q))) (es ++ (suc (counts ws seen q) * n + q, row) ∷ []))
 passes-h n r ws labels seen es q l row on long counted e f = record {
   wires = refl;
   touched = refl;

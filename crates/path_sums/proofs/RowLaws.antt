@@ -21,11 +21,11 @@ use Rattle.std.proofs.lemmas.Nat.{pow_pos}
 use Rattle.std.proofs.lemmas.Nat.Bits.{bit_at-lt, bit_at-zero, bit_at_above, bit_at_cat_high, bit_at_cat_low, bit_at_xor, same_from_bits}
 use Rattle.unitary_model.specs.Acts.{Bits}
 use Rattle.path_parity.specs.PathFunctions.{parity, phase}
-use Rattle.path_parity.specs.Sets.{IsPacked, number_of, set_of}
+use Rattle.path_parity.specs.Sets.{IsPacked, set_number, set_of}
 use Rattle.path_parity.proofs.LoopLaws.{drop-get}
 use Rattle.path_parity.proofs.ParityLaws.{phase-append}
 use Rattle.path_sums.specs.Rows.{paired, words_at, words_behind, words_in}
-use Rattle.path_sums.specs.Sums.{AreTotals, IsCompact, compact, compact_set, is_sparse, mark, sparse, sums_of, words_from}
+use Rattle.path_sums.specs.Sums.{AreTotals, IsCompact, compact, compact_set, is_sparse, sparse_mark, sparse, sums_of, words_from}
 use Rattle.path_sums.proofs.SparseLaws.{compact_set-compact, joined, unmarked}
 use Rattle.path_sums.specs.declared.term.Term.{Term}
 use Rattle.path_sums.specs.declared.words.Word.{Word}
@@ -59,7 +59,7 @@ apart a k n lt = same_from_bits (bit_xor a (n * 2 ^ k)) (a + n * 2 ^ k) (λ i. g
 abbrev Wide : List ℕ → Type 0
 Wide words = (k : ℕ) → get_or words k 0 < 2 ^ 64
 
-words_at-set : (place : ℕ) (words : List ℕ) → Wide words → words_set (words_at place words) ≡ number_of words * 2 ^ (64 * place)
+words_at-set : (place : ℕ) (words : List ℕ) → Wide words → words_set (words_at place words) ≡ set_number words * 2 ^ (64 * place)
 words_at-set place [] h = zero_times (2 ^ (64 * place))
   where
     zero_times : (p : ℕ) → 0 ≡ 0 * p
@@ -67,8 +67,8 @@ words_at-set place [] h = zero_times (2 ^ (64 * place))
 words_at-set place (word ∷ words) h =
     go (nat_eq word 0) refl
     ∙ ap (bit_xor (word * 2 ^ (64 * place))) (words_at-set (place + 1) words (λ k. h (suc k)))
-    ∙ apart (word * 2 ^ (64 * place)) (64 * (place + 1)) (number_of words) below
-    ∙ joined place (number_of words) word
+    ∙ apart (word * 2 ^ (64 * place)) (64 * (place + 1)) (set_number words) below
+    ∙ joined place (set_number words) word
   where
     below : word * 2 ^ (64 * place) < 2 ^ (64 * (place + 1))
     below = let e : 64 + 64 * place ≡ 64 * (place + 1) = omega arith in subst (λ k. word * 2 ^ (64 * place) < 2 ^ k) e (shl_lt 64 (64 * place) (h 0))
@@ -128,11 +128,11 @@ pub record IsRowOf (flat : List ℕ) (ws : List Word) : Type 0 where
   pub set : words_set ws ≡ compact_set flat
   pub words : AreAscending ws
 
-not_marked : (row : List ℕ) → IsPacked row → 0 < length row → get_or row 0 0 ≡ mark → ⊥
+not_marked : (row : List ℕ) → IsPacked row → 0 < length row → get_or row 0 0 ≡ sparse_mark → ⊥
 not_marked [] h lt e = omega arith
 not_marked (from ∷ words) h lt e = omega (arith, h.within, e)
 
-pub marked : (flat : List ℕ) → IsCompact flat → 0 < length flat → get_or flat 0 0 ≡ mark → IsRowOf flat (words_behind flat)
+pub marked : (flat : List ℕ) → IsCompact flat → 0 < length flat → get_or flat 0 0 ≡ sparse_mark → IsRowOf flat (words_behind flat)
 marked flat h lt m = go (is_sparse h.row) h.words
   where
     own : (ws : List Word) → ws ≡ words_in h.row → IsRowOf flat ws
@@ -141,14 +141,14 @@ marked flat h lt m = go (is_sparse h.row) h.words
       words = subst AreAscending (sym e) (words_in-words h.row h.packed);
     }
 
-    go : (b : Bool) → flat ≡ cond b (mark ∷ sparse h.row) h.row → IsRowOf flat (words_behind flat)
+    go : (b : Bool) → flat ≡ cond b (sparse_mark ∷ sparse h.row) h.row → IsRowOf flat (words_behind flat)
     go true e = own (words_behind flat) (ap words_behind e ∙ paired-sparse h.row)
     go false e = absurd (not_marked h.row h.packed (subst (λ xs. 0 < length xs) e lt) (ap (λ xs. get_or xs 0 0) (sym e) ∙ m))
 
-pub full : (flat : List ℕ) → IsCompact flat → (0 < length flat → get_or flat 0 0 ≡ mark → ⊥) → IsPacked flat
+pub full : (flat : List ℕ) → IsCompact flat → (0 < length flat → get_or flat 0 0 ≡ sparse_mark → ⊥) → IsPacked flat
 full flat h not = go (is_sparse h.row) h.words
   where
-    go : (b : Bool) → flat ≡ cond b (mark ∷ sparse h.row) h.row → IsPacked flat
+    go : (b : Bool) → flat ≡ cond b (sparse_mark ∷ sparse h.row) h.row → IsPacked flat
     go true e = absurd (not (subst (λ xs. 0 < length xs) (sym e) (omega arith)) (ap (λ xs. get_or xs 0 0) e))
     go false e = subst IsPacked (sym e) h.packed
 

@@ -7,9 +7,9 @@
 use Rattle.std.proofs.Common.{◌≡◌, ℕ, suc, ◌+◌, ◌-◌, ◌*◌, ◌^◌, ◌<◌, ◌≤◌, Bool, true, false, cond, List, [], ◌∷◌, ◌++◌, length, get_or, drop, refl, sym, ◌∙◌, ap, arith, append_assoc, append-nil, zero-mul, pow-add, drop-cons, drop_of_length-le}
 use Rattle.std.specs.Prelude.{nat_eq}
 use Rattle.std.proofs.lemmas.Bool.Decides.{nat_tests}
-use Rattle.path_parity.specs.Sets.{IsPacked, number_of, set_of}
+use Rattle.path_parity.specs.Sets.{IsPacked, set_number, set_of}
 use Rattle.path_parity.proofs.SetLaws.{set-same}
-use Rattle.path_sums.specs.Sums.{IsCompact, compact, compact_set, is_sparse, mark, marked_set, sparse, sparse_set, words_from}
+use Rattle.path_sums.specs.Sums.{IsCompact, compact, compact_set, is_sparse, sparse_mark, marked_set, sparse, sparse_set, words_from}
 
 -- ---- sets
 pub joined : (place n word : ℕ) → word * 2 ^ (64 * place) + n * 2 ^ (64 * (place + 1)) ≡ (n * 2 ^ 64 + word) * 2 ^ (64 * place)
@@ -21,9 +21,9 @@ joined place n word = ap (λ k. word * 2 ^ (64 * place) + n * k) power ∙ go (2
     go : (p : ℕ) → word * p + n * (p * 2 ^ 64) ≡ (n * 2 ^ 64 + word) * p
     go p = omega arith
 
-sparse_set-words : (place : ℕ) (words : List ℕ) → sparse_set (words_from place words) ≡ number_of words * 2 ^ (64 * place)
+sparse_set-words : (place : ℕ) (words : List ℕ) → sparse_set (words_from place words) ≡ set_number words * 2 ^ (64 * place)
 sparse_set-words place [] = sym (zero-mul (2 ^ (64 * place)))
-sparse_set-words place (word ∷ words) = go (nat_eq word 0) refl ∙ ap (λ k. word * 2 ^ (64 * place) + k) (sparse_set-words (place + 1) words) ∙ joined place (number_of words) word
+sparse_set-words place (word ∷ words) = go (nat_eq word 0) refl ∙ ap (λ k. word * 2 ^ (64 * place) + k) (sparse_set-words (place + 1) words) ∙ joined place (set_number words) word
   where
     none : (p r : ℕ) → nat_eq word 0 ≡ true → r ≡ word * p + r
     none p r e = let zero : word ≡ 0 = grind (arith, nat_tests) in omega (arith, ap (λ w. w * p) zero)
@@ -38,12 +38,12 @@ sparse_set-sparse (from ∷ words) = sparse_set-words from words
 
 pub unmarked : (row : List ℕ) → IsPacked row → compact_set row ≡ set_of row
 unmarked [] h = refl
-unmarked (from ∷ words) h = let other : nat_eq from mark ≡ false = grind (arith, nat_tests, h.within) in ap (λ b. marked_set b from words) other
+unmarked (from ∷ words) h = let other : nat_eq from sparse_mark ≡ false = grind (arith, nat_tests, h.within) in ap (λ b. marked_set b from words) other
 
 pub compact_set-compact : (row : List ℕ) → IsPacked row → compact_set (compact row) ≡ set_of row
 compact_set-compact row h = go (is_sparse row)
   where
-    go : (b : Bool) → compact_set (cond b (mark ∷ sparse row) row) ≡ set_of row
+    go : (b : Bool) → compact_set (cond b (sparse_mark ∷ sparse row) row) ≡ set_of row
     go true = sparse_set-sparse row
     go false = unmarked row h
 

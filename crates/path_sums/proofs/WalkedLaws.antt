@@ -1,7 +1,7 @@
 -- A walk along all gates of a circuit.
 --     IsUnderway n r gs rest sign none t w      the gates of gs before rest were passed, from `none` on
 --     underway-start, underway-more, underway-end
---     IsWalked n r gs sign none t w             all were
+--     HasPassedAll n r gs sign none t w         all were
 --     walks-difference, function-walks        two walks, one after the other
 --     unlike                  not the same but for phases, so not the same
 --     difference-there        what a call found
@@ -19,7 +19,7 @@ use Rattle.path_parity.proofs.SamePathSumLaws.{path_sum-function}
 use Rattle.path_parity.proofs.LoopLaws.{drop-get}
 use Rattle.path_sums.proofs.NamingLaws.{by-function, by-sums, constant-by, function-by, sums-by}
 use Rattle.path_sums.specs.Names.{AreAmong, SameBy, SameFunctionBy, after_by, constant_by, hadamards_by, last_by, number_by, term_by, terms_by, variables_of}
-use Rattle.path_sums.specs.Sums.{Adds, Collected, IsDifference, IsSameWalk, IsUnlike, IsWalked, NamedWalk, Passes, labels_in, seen_in}
+use Rattle.path_sums.specs.Sums.{Adds, Collected, IsDifference, IsSameWalk, IsUnlike, HasPassedAll, NamedWalk, PassesGate, labels_in, seen_in}
 
 pub total-append : (m : ℕ) (xs ys : List (ℕ × ℕ)) → total m (xs ++ ys) ≡ total m xs + total m ys
 total-append m [] ys = sym (zero-add (total m ys))
@@ -44,7 +44,7 @@ underway-start n r gs sign none w wires labels seen sets = record {
 step : (sign x y a ab b r : ℕ) → y % 8 ≡ (x + sign * a) % 8 → ab ≡ a + b → (x + sign * ab) % 8 ≡ r → (y + sign * b) % 8 ≡ r
 step sign x y a ab b r h e f = omega (arith, ap (λ k. sign * k) e)
 
-pub underway-more : (n : ℕ) (r : ℕ → ℕ) (gs : List Gate) (i : ℕ) (g : Gate) (sign : ℕ) (none t u : Collected) (w v : NamedWalk) → slice_get gs i ≡ Some g → Passes r g w v →
+pub underway-more : (n : ℕ) (r : ℕ → ℕ) (gs : List Gate) (i : ℕ) (g : Gate) (sign : ℕ) (none t u : Collected) (w v : NamedWalk) → slice_get gs i ≡ Some g → PassesGate r g w v →
     Adds sign (term_by w.wires r g (labels_in w) (seen_in w)) (constant_at g (labels_in w)) t u → IsUnderway n r gs (drop i gs) sign none t w → IsUnderway n r gs (drop (i + 1) gs) sign none u v
 underway-more n r gs i g sign none t u w v there p a h =
     let rest : List Gate = drop (i + 1) gs in
@@ -70,7 +70,7 @@ underway-more n r gs i g sign none t u w v there p a h =
           h.constant;
     }
 
-pub underway-end : (n : ℕ) (r : ℕ → ℕ) (gs : List Gate) (i : ℕ) (sign : ℕ) (none t : Collected) (w : NamedWalk) → length gs ≤ i → IsUnderway n r gs (drop i gs) sign none t w → IsWalked n r gs sign none t w
+pub underway-end : (n : ℕ) (r : ℕ → ℕ) (gs : List Gate) (i : ℕ) (sign : ℕ) (none t : Collected) (w : NamedWalk) → length gs ≤ i → IsUnderway n r gs (drop i gs) sign none t w → HasPassedAll n r gs sign none t w
 underway-end n r gs i sign none t w le h =
     let l : Wires = labels_in w in
     let s : Seen = seen_in w in
@@ -88,7 +88,7 @@ underway-end n r gs i sign none t w le h =
 
 -- ---- two walks
 module _ (n : ℕ) (names : List ℕ) (A B : List Gate) (namedA : AreAmong names (variables_of n A unseen)) (namedB : AreAmong names (variables_of n B unseen)) (none one two : Collected) (a b : NamedWalk)
-    (blank : none.sets ≡ []) (zero : none.constant ≡ 0) (first : IsWalked n (number_by n names) A 7 none one a) (second : IsWalked n (number_by n names) B 1 one two b) where
+    (blank : none.sets ≡ []) (zero : none.constant ≡ 0) (first : HasPassedAll n (number_by n names) A 7 none one a) (second : HasPassedAll n (number_by n names) B 1 one two b) where
   abbrev termsA : List (ℕ × ℕ)
   termsA = terms_by n (number_by n names) A (own_labels n) unseen
 

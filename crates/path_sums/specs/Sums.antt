@@ -3,7 +3,7 @@
 --     words_from p words  the words that aren't 0, each behind its place, the first word's place being p
 --     sparse row          a row as those words alone;  sparse_set flat: the set that such words make
 --     is_sparse row       more than half of a row's numbers are 0
---     mark                what stands before a sparse row: it is the place of no word
+--     sparse_mark         what stands before a sparse row: it is the place of no word
 --     compact row         a row, or where it is sparse its words that aren't 0 behind the mark
 --     compact_set flat    the set of such a row;  marked_set: of one whose first number is the mark, or isn't
 --     IsCompact flat      it is that of a set
@@ -15,11 +15,11 @@
 --                         so far, as its variable and the set before it
 --     labels_in w, seen_in w  the labels of all wires, and how many H stand before on them
 --     befores es          the entries of the program's map from variables to compact rows, by sets
---     AreRows es          the rows are those of sets
---     IsWalk n ws labels seen es  the labels and the counts are those of the wires ws, different ones of n, the rows are those of sets,
+--     AreSetRows es       the rows are those of sets
+--     IsNamedWalk n ws labels seen es  the labels and the counts are those of the wires ws, different ones of n, the rows are those of sets,
 --                         and no variable of an H to come is among the entries
---     Passes r g old new  a walk after gate g, where r tells which variable stands for each named one
---     IsWalked n r gs sign old new w  the walk past all gates of a circuit, and what they added
+--     PassesGate r g old new  a walk after gate g, where r tells which variable stands for each named one
+--     HasPassedAll n r gs sign old new w  the walk past all gates of a circuit, and what they added
 --     IsSameWalk one two  the same H with the same sets, and the same labels
 --     IsUnlike n A B      neither the same path sum nor the same but for the phases, with these the same function
 --     IsDifference n A B t  what B adds less what A adds tells whether they are the same, in both ways
@@ -56,11 +56,11 @@ sparse_set (place ∷ (word ∷ flat)) = word * 2 ^ (64 * place) + sparse_set fl
 abbrev pub is_sparse : List ℕ → Bool
 is_sparse row = nat_lt (count_by (λ word. not (nat_eq word 0)) row) (length row / 2)
 
-abbrev pub mark : ℕ
-mark = 2 ^ 64 - 1
+abbrev pub sparse_mark : ℕ
+sparse_mark = 2 ^ 64 - 1
 
 abbrev pub compact : List ℕ → List ℕ
-compact row = cond (is_sparse row) (mark ∷ sparse row) row
+compact row = cond (is_sparse row) (sparse_mark ∷ sparse row) row
 
 abbrev pub marked_set : Bool → ℕ → List ℕ → ℕ
 marked_set true from words = sparse_set words
@@ -68,7 +68,7 @@ marked_set false from words = set_of (from ∷ words)
 
 abbrev pub compact_set : List ℕ → ℕ
 compact_set [] = 0
-compact_set (from ∷ words) = marked_set (nat_eq from mark) from words
+compact_set (from ∷ words) = marked_set (nat_eq from sparse_mark) from words
 
 pub record IsCompact (flat : List ℕ) : Type 0 where
   pub row : List ℕ
@@ -109,20 +109,20 @@ abbrev pub befores : List (ℕ × Vec ℕ Global) → List (ℕ × ℕ)
 befores [] = []
 befores (e ∷ es) = (e.0, compact_set e.1.items) ∷ befores es
 
-abbrev pub AreRows : List (ℕ × Vec ℕ Global) → Type 0
-AreRows [] = Unit {0}
-AreRows (e ∷ es) = IsCompact e.1.items × AreRows es
+abbrev pub AreSetRows : List (ℕ × Vec ℕ Global) → Type 0
+AreSetRows [] = Unit {0}
+AreSetRows (e ∷ es) = IsCompact e.1.items × AreSetRows es
 
-pub record IsWalk (n : ℕ) (touched : List ℕ) (labels : List Label) (seen : List ℕ) (es : List (ℕ × Vec ℕ Global)) : Type 0 where
+pub record IsNamedWalk (n : ℕ) (touched : List ℕ) (labels : List Label) (seen : List ℕ) (es : List (ℕ × Vec ℕ Global)) : Type 0 where
   pub below : All (λ q. q < n) touched
   pub distinct : IsDistinct nat_eq touched
   pub labelled : length labels ≡ length touched
   pub counted : length seen ≡ length touched
   pub packed : All IsLabel labels
-  pub rows : AreRows es
+  pub rows : AreSetRows es
   pub to_come : (q k : ℕ) → q < n → counts touched seen q ≤ k → set_before (suc k * n + q) (befores es) ≡ None
 
-pub record Passes (r : ℕ → ℕ) (g : Gate) (old new : NamedWalk) : Type 0 where
+pub record PassesGate (r : ℕ → ℕ) (g : Gate) (old new : NamedWalk) : Type 0 where
   pub wires : new.wires ≡ old.wires
   pub touched : new.touched ≡ old.touched
   pub labels : labels_in new ≡ after_by old.wires r g (labels_in old) (seen_in old)
@@ -133,7 +133,7 @@ pub record IsSameWalk (one two : NamedWalk) : Type 0 where
   pub sets : (v : ℕ) → set_before v one.sets ≡ set_before v two.sets
   pub labels : (q : ℕ) → q < one.wires → labels_in one q ≡ labels_in two q
 
-pub record IsWalked (n : ℕ) (r : ℕ → ℕ) (gs : List Gate) (sign : ℕ) (old new : Collected) (w : NamedWalk) : Type 0 where
+pub record HasPassedAll (n : ℕ) (r : ℕ → ℕ) (gs : List Gate) (sign : ℕ) (old new : Collected) (w : NamedWalk) : Type 0 where
   pub wires : w.wires ≡ n
   pub labels : labels_in w ≡ last_by n r gs (own_labels n) unseen
   pub sets : w.sets ≡ hadamards_by n r gs (own_labels n) unseen

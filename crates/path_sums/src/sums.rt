@@ -13,7 +13,7 @@ ghost use Rattle.path_parity.specs.PathFunctions.{SamePathFunction, Vanishes};
 ghost use Rattle.path_parity.specs.PathSum.{fresh, own_labels};
 ghost use Rattle.path_parity.specs.Sets.{IsLabel, IsPacked, label_of, set_of};
 ghost use Rattle.path_sums.specs.Names.{AreAmong, IsTouched, number_by, term_by, wires_touched};
-ghost use Rattle.path_sums.specs.Sums.{Adds, AddsKnown, AreRows, IsDifference, IsSameWalk, IsUnlike, IsWalked, Passes, befores, compact, is_sparse, labels_in, mark, seen_in, sparse};
+ghost use Rattle.path_sums.specs.Sums.{Adds, AddsKnown, AreSetRows, IsDifference, IsSameWalk, IsUnlike, HasPassedAll, PassesGate, befores, compact, is_sparse, labels_in, sparse_mark, seen_in, sparse};
 
 use crate::names::{first_counts, next_variable, note_names, number};
 use crate::rows::terms_of;
@@ -148,7 +148,7 @@ struct Walk<'a> {
 impl<'a> Model for Walk<'a> {
     ghost use Rattle.std.specs.Prelude.{map};
     ghost use Rattle.path_parity.specs.Sets.{label_of};
-    ghost use Rattle.path_sums.specs.Sums.{IsWalk, NamedWalk, befores};
+    ghost use Rattle.path_sums.specs.Sums.{IsNamedWalk, NamedWalk, befores};
 
     ghost Value = { NamedWalk };
 
@@ -160,7 +160,7 @@ impl<'a> Model for Walk<'a> {
       sets = befores a.sets.entries;
     } };
 
-    ghost invariant = { λ a. IsWalk a.wires a.touched.now.keys a.labels.items a.seen.items a.sets.entries };
+    ghost invariant = { λ a. IsNamedWalk a.wires a.touched.now.keys a.labels.items a.seen.items a.sets.entries };
 }
 
 impl<'a> Walk<'a> {
@@ -199,7 +199,7 @@ impl<'a> Walk<'a> {
     ) -> Result<(), AllocError>
         requires within { q < self.old.wires }
         requires touched { IsTouched self.old.touched (H q) }
-        ensures passes { OnOk result (Passes (number_by self.old.wires names.now.keys) (H q) self.old self.new) }
+        ensures passes { OnOk result (PassesGate (number_by self.old.wires names.now.keys) (H q) self.old self.new) }
         ensures adds { OnOk result (Adds sign
             (term_by self.old.wires (number_by self.old.wires names.now.keys) (H q) (labels_in self.old) (seen_in self.old)) 0 totals.old totals.new) }
     {
@@ -229,7 +229,7 @@ impl<'a> Walk<'a> {
     ) -> Result<(), AllocError>
         requires fine { IsFine self.old.wires gate }
         requires touched { IsTouched self.old.touched gate }
-        ensures passes { OnOk result (Passes (number_by self.old.wires names.now.keys) gate self.old self.new) }
+        ensures passes { OnOk result (PassesGate (number_by self.old.wires names.now.keys) gate self.old self.new) }
         ensures adds { OnOk result (Adds sign
             (term_by self.old.wires (number_by self.old.wires names.now.keys) gate (labels_in self.old) (seen_in self.old))
             (constant_at gate (labels_in self.old)) totals.old totals.new) }
@@ -281,8 +281,8 @@ fn first_labels(alloc: Global, wires: &[u32]) -> Result<Vec<Label>, AllocError>
 
 /// Whether two walks had the same sets before the same H.
 fn same_sets(left: &IndexMap<u64, Vec<u64>>, right: &IndexMap<u64, Vec<u64>>) -> bool
-    requires left { AreRows left.now.entries }
-    requires right { AreRows right.now.entries }
+    requires left { AreSetRows left.now.entries }
+    requires right { AreSetRows right.now.entries }
     ensures { IsTrue result ↔ ((v : ℕ) → set_before v (befores left.now.entries) ≡ set_before v (befores right.now.entries)) }
 {
     left == right
@@ -323,7 +323,7 @@ fn is_sparse(row: &[u64]) -> bool
 /// A mark, and then a set's row as its words that aren't 0, each behind its place.
 fn sparse_row(alloc: Global, row: &[u64]) -> Result<Vec<u64>, AllocError>
     requires { IsPacked row.now }
-    ensures { IfOk result (λ v. v.items ≡ mark ∷ sparse row.now) }
+    ensures { IfOk result (λ v. v.items ≡ sparse_mark ∷ sparse row.now) }
 {
     let mut kept = Vec::new(alloc);
     kept.push(MARK)?;
@@ -392,7 +392,7 @@ fn walked<'a>(
     requires below { All (λ q. q < body.now.wires) touched.now.keys }
     requires touched { AreAmong touched.now.keys (wires_touched body.now.gates) }
     ensures touched { IfOk result (λ w. w.touched ≡ touched.now.keys) }
-    ensures walked { IfOk result (λ w. IsWalked body.now.wires (number_by body.now.wires names.now.keys) body.now.gates sign totals.old totals.new w) }
+    ensures walked { IfOk result (λ w. HasPassedAll body.now.wires (number_by body.now.wires names.now.keys) body.now.gates sign totals.old totals.new w) }
 {
     let mut walk = Walk::new(alloc, touched, body.wires())?;
     'gates: for place in 0..body.len() {

@@ -8,10 +8,10 @@ use Rattle.std.proofs.lemmas.Bool.Decides.{nat_tests}
 use Rattle.circuit_list.specs.declared.Gate.{Gate}
 use Rattle.gf2_linear.specs.Rows.{is_independent, rows_at}
 use Rattle.gf2_linear.proofs.Ranks.{Free-independent}
-use Rattle.matroid_partition.specs.Partitions.{times, IsPartition}
+use Rattle.matroid_partition.specs.Partitions.{occurrences, IsPartition}
 use Rattle.circuit_layers.specs.Layers.{LayerBody}
 use Rattle.phase_poly.specs.Polys.{AreDihedral, poly_of}
-use Rattle.phase_poly.specs.Resynthesis.{rows_of}
+use Rattle.phase_poly.specs.Resynthesis.{rows_of_terms}
 use Rattle.phase_poly.specs.Replaced.{DihedralLayers, HasBlocks, AreBlocks}
 use Rattle.phase_poly.proofs.MapLaws.{terms_rows}
 use Rattle.phase_poly.proofs.BuildingLaws.{rows_of-nonzero}
@@ -20,14 +20,14 @@ abbrev pub singles : ℕ → ℕ → List (List ℕ)
 singles s zero = []
 singles s (suc n) = (s ∷ []) ∷ singles (suc s) n
 
-times-before : (i s n : ℕ) → i < s → times i (singles s n) ≡ 0
+times-before : (i s n : ℕ) → i < s → occurrences i (singles s n) ≡ 0
 times-before i s zero h = refl
 times-before i s (suc n) h = (λ j. cond (off j) 1 0 + 0 + times-before i (suc s) n (omega arith) j)
   where
     off : nat_eq s i ≡ false
     off = grind (arith, nat_tests)
 
-times-one : (i s n : ℕ) → s ≤ i → i < s + n → times i (singles s n) ≡ 1
+times-one : (i s n : ℕ) → s ≤ i → i < s + n → occurrences i (singles s n) ≡ 1
 times-one i s zero h l = absurd (omega arith)
 times-one i s (suc n) h l = go (nat_eq s i) refl (λ g. times-one i (suc s) n g (omega arith))
   where
@@ -37,7 +37,7 @@ times-one i s (suc n) h l = go (nat_eq s i) refl (λ g. times-one i (suc s) n g 
     later : nat_eq s i ≡ false → suc s ≤ i
     later e = grind (arith, nat_tests)
 
-    go : (b : Bool) → nat_eq s i ≡ b → (suc s ≤ i → times i (singles (suc s) n) ≡ 1) → cond b 1 0 + 0 + times i (singles (suc s) n) ≡ 1
+    go : (b : Bool) → nat_eq s i ≡ b → (suc s ≤ i → occurrences i (singles (suc s) n) ≡ 1) → cond b 1 0 + 0 + occurrences i (singles (suc s) n) ≡ 1
     go true e r = ap (λ z. 1 + 0 + z) (times-before i (suc s) n (same e))
     go false e r = ap (λ z. 0 + 0 + z) (r (later e))
 
@@ -66,7 +66,7 @@ singles-partition rows z = record {
 
 has_blocks : (n : ℕ) (gs : List Gate) → AreDihedral n gs → (b : ℕ) × HasBlocks n gs b
 has_blocks n gs f =
-    let rows : List ℕ = rows_of (poly_of n gs).terms in
+    let rows : List ℕ = rows_of_terms (poly_of n gs).terms in
     (length (singles 0 (length rows)), (singles 0 (length rows), (singles-partition rows (rows_of-nonzero n (poly_of n gs).terms (terms_rows n gs f)), refl)))
 
 pub some_blocks : (n : ℕ) (ls : List LayerBody) → DihedralLayers n ls → (bs : List ℕ) × AreBlocks n ls bs

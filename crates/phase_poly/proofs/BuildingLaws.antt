@@ -10,32 +10,32 @@ use Rattle.circuit_list.specs.declared.Gate.{Gate}
 use Rattle.circuit_list.specs.declared.Gate.TheVariants.{P, Cx}
 use Rattle.circuit_list.specs.Gates.{ops}
 use Rattle.gf2_linear.specs.Rows.{rows_at}
-use Rattle.gf2_linear.specs.Matrices.{run, IsPair}
+use Rattle.gf2_linear.specs.Matrices.{added_all, IsPair}
 use Rattle.gf2_linear.proofs.EliminationLaws.{All-pairs}
 use Rattle.phase_poly.specs.Polys.{Term}
-use Rattle.phase_poly.specs.Resynthesis.{cnots, at_places, term_rows, rows_of, picked, AllBelow, BlocksBelow, IsBuilt, cx_bound}
+use Rattle.phase_poly.specs.Resynthesis.{cnot_gates, at_places, term_rows, rows_of_terms, picked, AllBelow, BlocksBelow, IsBuilt, cx_bound}
 use Rattle.phase_poly.proofs.MapLaws.{AreRows}
 use Rattle.phase_poly.proofs.BuildLaws.{built_cnots, built_phase, cx_ops, cnots_cx}
 
-cnots-append : (ps qs : List (ℕ × ℕ)) → cnots (ps ++ qs) ≡ cnots ps ++ cnots qs
+cnots-append : (ps qs : List (ℕ × ℕ)) → cnot_gates (ps ++ qs) ≡ cnot_gates ps ++ cnot_gates qs
 cnots-append [] qs = refl
 cnots-append (e ∷ ps) qs = ap (λ z. Cx e.0 e.1 ∷ z) (cnots-append ps qs)
 
-pub cnots-more : (ps : List (ℕ × ℕ)) (i : ℕ) (d : ℕ × ℕ) (first gates next : List Gate) → i < length ps → gates ≡ first ++ cnots (take i ps) → next ≡ gates ++ Cx (get_or ps i d).0 (get_or ps i d).1 ∷ [] → next ≡ first ++ cnots (take (i + 1) ps)
+pub cnots-more : (ps : List (ℕ × ℕ)) (i : ℕ) (d : ℕ × ℕ) (first gates next : List Gate) → i < length ps → gates ≡ first ++ cnot_gates (take i ps) → next ≡ gates ++ Cx (get_or ps i d).0 (get_or ps i d).1 ∷ [] → next ≡ first ++ cnot_gates (take (i + 1) ps)
 cnots-more ps i d first gates next l g n =
-    n ∙ ap (λ z. z ++ Cx (get_or ps i d).0 (get_or ps i d).1 ∷ []) g ∙ append_assoc first (cnots (take i ps)) (Cx (get_or ps i d).0 (get_or ps i d).1 ∷ [])
-    ∙ ap (λ z. first ++ z) (sym (cnots-append (take i ps) (get_or ps i d ∷ [])) ∙ ap cnots (sym (take-suc ps i d l) ∙ ap (λ k. take k ps) (one i)))
+    n ∙ ap (λ z. z ++ Cx (get_or ps i d).0 (get_or ps i d).1 ∷ []) g ∙ append_assoc first (cnot_gates (take i ps)) (Cx (get_or ps i d).0 (get_or ps i d).1 ∷ [])
+    ∙ ap (λ z. first ++ z) (sym (cnots-append (take i ps) (get_or ps i d ∷ [])) ∙ ap cnot_gates (sym (take-suc ps i d l) ∙ ap (λ k. take k ps) (one i)))
   where
     one : (i : ℕ) → suc i ≡ i + 1
     one i = omega arith
 
-pub bring_built : (n : ℕ) (gates next : List Gate) (held target : List ℕ) (pairs : List (ℕ × ℕ)) → All (IsPair n) pairs → run held pairs ≡ target → next ≡ gates ++ cnots pairs →
+pub bring_built : (n : ℕ) (gates next : List Gate) (held target : List ℕ) (pairs : List (ℕ × ℕ)) → All (IsPair n) pairs → added_all held pairs ≡ target → next ≡ gates ++ cnot_gates pairs →
     (done : List Term) → IsBuilt n gates held done → IsBuilt n next target done
-bring_built n gates next held target pairs p e g done h = subst (λ m. IsBuilt n next m done) e (subst (λ gs. IsBuilt n gs (run held pairs) done) (sym g) (built_cnots n gates held done pairs (All-pairs n pairs p) h))
+bring_built n gates next held target pairs p e g done h = subst (λ m. IsBuilt n next m done) e (subst (λ gs. IsBuilt n gs (added_all held pairs) done) (sym g) (built_cnots n gates held done pairs (All-pairs n pairs p) h))
 
-pub bring_few : (n : ℕ) (gates next : List Gate) (pairs : List (ℕ × ℕ)) → next ≡ gates ++ cnots pairs → length pairs ≤ n * n → cx_count (ops next) ≤ cx_count (ops gates) + n * n
-bring_few n gates next pairs e l = let a = cx_ops gates (cnots pairs) in let b = cnots_cx pairs in let c : cx_count (ops next) ≡ cx_count (ops (gates ++ cnots pairs)) = ap (λ gs. cx_count (ops gs)) e in
-    sums (cx_count (ops next)) (cx_count (ops (gates ++ cnots pairs))) (cx_count (ops gates)) (cx_count (ops (cnots pairs))) (length pairs) (n * n) c a b l
+pub bring_few : (n : ℕ) (gates next : List Gate) (pairs : List (ℕ × ℕ)) → next ≡ gates ++ cnot_gates pairs → length pairs ≤ n * n → cx_count (ops next) ≤ cx_count (ops gates) + n * n
+bring_few n gates next pairs e l = let a = cx_ops gates (cnot_gates pairs) in let b = cnots_cx pairs in let c : cx_count (ops next) ≡ cx_count (ops (gates ++ cnot_gates pairs)) = ap (λ gs. cx_count (ops gs)) e in
+    sums (cx_count (ops next)) (cx_count (ops (gates ++ cnot_gates pairs))) (cx_count (ops gates)) (cx_count (ops (cnot_gates pairs))) (length pairs) (n * n) c a b l
   where
     sums : (w x g y p m : ℕ) → w ≡ x → x ≡ g + y → y ≡ p → p ≤ m → w ≤ g + m
     sums w x g y p m e a b l = omega (arith, e, a, b, l)
@@ -85,28 +85,28 @@ rows-below n ts ps rows h g e k d l = subst (λ v. v < 2 ^ n) (sym (ap (λ z. ge
     inside = subst (λ m. k < m) (ap (λ (z : List ℕ). length z) e ∙ term_rows-length ts ps) l
 
 -- ---- the rows of terms
-rows_of-append : (ts us : List Term) → rows_of (ts ++ us) ≡ rows_of ts ++ rows_of us
+rows_of-append : (ts us : List Term) → rows_of_terms (ts ++ us) ≡ rows_of_terms ts ++ rows_of_terms us
 rows_of-append [] us = refl
 rows_of-append (e ∷ ts) us = ap (λ z. e.0 ∷ z) (rows_of-append ts us)
 
-pub rows_of-more : (ts : List Term) (i : ℕ) (rows next : List ℕ) → i < length ts → rows ≡ rows_of (take i ts) → next ≡ rows ++ (get_or ts i (0, 0)).0 ∷ [] → next ≡ rows_of (take (i + 1) ts)
-rows_of-more ts i rows next l h n = n ∙ ap (λ z. z ++ (get_or ts i (0, 0)).0 ∷ []) h ∙ sym (rows_of-append (take i ts) (get_or ts i (0, 0) ∷ [])) ∙ ap rows_of (sym (take-suc ts i (0, 0) l) ∙ ap (λ k. take k ts) (one_more i))
+pub rows_of-more : (ts : List Term) (i : ℕ) (rows next : List ℕ) → i < length ts → rows ≡ rows_of_terms (take i ts) → next ≡ rows ++ (get_or ts i (0, 0)).0 ∷ [] → next ≡ rows_of_terms (take (i + 1) ts)
+rows_of-more ts i rows next l h n = n ∙ ap (λ z. z ++ (get_or ts i (0, 0)).0 ∷ []) h ∙ sym (rows_of-append (take i ts) (get_or ts i (0, 0) ∷ [])) ∙ ap rows_of_terms (sym (take-suc ts i (0, 0) l) ∙ ap (λ k. take k ts) (one_more i))
 
-pub rows_of-length : (ts : List Term) → length (rows_of ts) ≡ length ts
+pub rows_of-length : (ts : List Term) → length (rows_of_terms ts) ≡ length ts
 rows_of-length [] = refl
 rows_of-length (e ∷ ts) = ap (λ k. suc k) (rows_of-length ts)
 
-rows_of-get : (ts : List Term) (p : ℕ) → get_or (rows_of ts) p 0 ≡ (get_or ts p (0, 0)).0
+rows_of-get : (ts : List Term) (p : ℕ) → get_or (rows_of_terms ts) p 0 ≡ (get_or ts p (0, 0)).0
 rows_of-get [] p = refl
 rows_of-get (e ∷ ts) zero = refl
 rows_of-get (e ∷ ts) (suc p) = rows_of-get ts p
 
-pub rows_of-places : (ts : List Term) (ps : List ℕ) → rows_at (rows_of ts) ps ≡ term_rows ts ps
+pub rows_of-places : (ts : List Term) (ps : List ℕ) → rows_at (rows_of_terms ts) ps ≡ term_rows ts ps
 unfolding rows_at
 rows_of-places ts [] = refl
 rows_of-places ts (p ∷ ps) = λ i. rows_of-get ts p i ∷ rows_of-places ts ps i
 
-pub rows_of-nonzero : (n : ℕ) (ts : List Term) → AreRows n ts → (k d : ℕ) → k < length (rows_of ts) → get_or (rows_of ts) k d ≢ 0
+pub rows_of-nonzero : (n : ℕ) (ts : List Term) → AreRows n ts → (k d : ℕ) → k < length (rows_of_terms ts) → get_or (rows_of_terms ts) k d ≢ 0
 rows_of-nonzero n [] h k d l = λ e. absurd (omega arith)
 rows_of-nonzero n (e ∷ ts) h zero d l = h.0
 rows_of-nonzero n (e ∷ ts) h (suc k) d l = rows_of-nonzero n ts h.1.1.1 k d (omega arith)

@@ -9,10 +9,10 @@ use Rattle.unitary_model.specs.Operations.{cx_count}
 use Rattle.circuit_list.specs.declared.Gate.{Gate}
 use Rattle.circuit_list.specs.declared.Gate.TheVariants.{H, X, P, Cx}
 use Rattle.circuit_list.specs.Gates.{ops, IsFine}
-use Rattle.circuit_layers.specs.Layers.{LayerBody, level_of, inserted, with_gate, no_gates, at_layer, Walk, first_walk, walked, walked_all, layers_of, hadamards, line, linked}
+use Rattle.circuit_layers.specs.Layers.{LayerBody, level_of, inserted, layer_with, no_gates, at_layer, LayerWalk, first_layer_walk, layer_walked, layer_walked_all, layers_of, hadamards_on, layer_gates, linked}
 use Rattle.phase_poly.specs.Polys.{AreDihedral}
 use Rattle.phase_poly.specs.Resynthesis.{AllBelow}
-use Rattle.phase_poly.specs.Replaced.{IsTaken, IsReplaced, AreFine, DihedralLayers, IsRelinked, KeepsBound, lesser}
+use Rattle.phase_poly.specs.Replaced.{IsLayerTaken, IsReplaced, AreFine, DihedralLayers, IsRelinked, KeepsBound, lesser}
 use Rattle.rewrite_pass.specs.Law.{IsRewriting}
 use Rattle.rewrite_pass.proofs.RewritingLaws.{Step-IsRewriting}
 use Rattle.phase_poly.proofs.LayerLaws.{fine-append}
@@ -34,7 +34,7 @@ dihedral_fine n (X q ∷ gs) f = (f.0, dihedral_fine n gs f.1)
 dihedral_fine n (P k q ∷ gs) f = (f.0, dihedral_fine n gs f.1)
 dihedral_fine n (Cx c t ∷ gs) f = (f.0, dihedral_fine n gs f.1)
 
-pub hadamards_fine : (n : ℕ) (qs : List ℕ) → AllBelow n qs → AreFine n (hadamards qs)
+pub hadamards_fine : (n : ℕ) (qs : List ℕ) → AllBelow n qs → AreFine n (hadamards_on qs)
 hadamards_fine n [] h = tt
 hadamards_fine n (q ∷ qs) h = (h.0, hadamards_fine n qs h.1)
 
@@ -50,38 +50,38 @@ below_inserted n q (r ∷ rs) l h = go (nat_lt q r) (below_inserted n q rs l h.1
     go true f = (l, h)
     go false f = (h.0, f)
 
-hads_with : (n : ℕ) (g : Gate) (l : LayerBody) → IsFine n g → AllBelow n l.hadamards → AllBelow n (with_gate g l).hadamards
+hads_with : (n : ℕ) (g : Gate) (l : LayerBody) → IsFine n g → AllBelow n l.hadamards → AllBelow n (layer_with g l).hadamards
 hads_with n (H q) l f h = below_inserted n q l.hadamards f h
 hads_with n (X q) l f h = h
 hads_with n (P k q) l f h = h
 hads_with n (Cx c t) l f h = h
 
-hads_at : (n k : ℕ) (g : Gate) (ls : List LayerBody) → IsFine n g → HadsBelow n ls → HadsBelow n (at_layer k (with_gate g) ls)
+hads_at : (n k : ℕ) (g : Gate) (ls : List LayerBody) → IsFine n g → HadsBelow n ls → HadsBelow n (at_layer k (layer_with g) ls)
 hads_at n zero g [] f h = (hads_with n g no_gates f tt, tt)
 hads_at n zero g (l ∷ ls) f h = (hads_with n g l f h.0, h.1)
 hads_at n (suc k) g [] f h = (tt, hads_at n k g [] f tt)
 hads_at n (suc k) g (l ∷ ls) f h = (h.0, hads_at n k g ls f h.1)
 
-pub hads_walked : (n : ℕ) (gs : List Gate) (s : Walk) → AreFine n gs → HadsBelow n s.layers → HadsBelow n (walked_all gs s).layers
+pub hads_walked : (n : ℕ) (gs : List Gate) (s : LayerWalk) → AreFine n gs → HadsBelow n s.layers → HadsBelow n (layer_walked_all gs s).layers
 hads_walked n [] s f h = h
-hads_walked n (g ∷ gs) s f h = hads_walked n gs (walked g s) f.1 (hads_at n (level_of s.levels g) g s.layers f.0 h)
+hads_walked n (g ∷ gs) s f h = hads_walked n gs (layer_walked g s) f.1 (hads_at n (level_of s.levels g) g s.layers f.0 h)
 
-taken_fine : (n t : ℕ) (A B : List Gate) → AreDihedral n A → IsTaken n A B t → AreFine n B
+taken_fine : (n t : ℕ) (A B : List Gate) → AreDihedral n A → IsLayerTaken n A B t → AreFine n B
 taken_fine n t A B f (inl h) = subst (AreFine n) (sym h.0) (dihedral_fine n A f)
 taken_fine n t A B f (inr h) = dihedral_fine n B h.0.dihedral
 
 replaced_fine : (n t : ℕ) (ls ms : List LayerBody) → DihedralLayers n ls → HadsBelow n ls → IsReplaced n ls ms t → AreFine n (linked ms)
 replaced_fine n t [] [] p q h = tt
 replaced_fine n t (l ∷ ls) (m ∷ ms) p q h =
-    fine-append n (line m) (linked ms)
-    (fine-append n m.gates (hadamards m.hadamards) (taken_fine n h.1.0 l.gates m.gates p.0 h.1.1.1.0) (subst (λ qs. AreFine n (hadamards qs)) (sym h.0) (hadamards_fine n l.hadamards q.0)))
+    fine-append n (layer_gates m) (linked ms)
+    (fine-append n m.gates (hadamards_on m.hadamards) (taken_fine n h.1.0 l.gates m.gates p.0 h.1.1.1.0) (subst (λ qs. AreFine n (hadamards_on qs)) (sym h.0) (hadamards_fine n l.hadamards q.0)))
     (replaced_fine n h.1.1.0 ls ms p.1 q.1 h.1.1.1.1.0)
 replaced_fine n t [] (m ∷ ms) p q h = absurd h
 replaced_fine n t (l ∷ ls) [] p q h = absurd h
 
 pub relinked_fine : (n t : ℕ) (gs new : List Gate) → All (IsFine n) gs → IsRelinked n (layers_of gs) new t → All (IsFine n) new
 relinked_fine n t gs new f h =
-    of_fine n new (subst (AreFine n) (sym h.gates) (replaced_fine n t (layers_of gs) h.layers (layers_dihedral n gs (fine_of n gs f)) (hads_walked n gs first_walk (fine_of n gs f) tt) h.replaced))
+    of_fine n new (subst (AreFine n) (sym h.gates) (replaced_fine n t (layers_of gs) h.layers (layers_dihedral n gs (fine_of n gs f)) (hads_walked n gs first_layer_walk (fine_of n gs f) tt) h.replaced))
 
 -- a circuit of the list
 pub rewriting_new : (n t : ℕ) (gs new : List Gate) → All (IsFine n) gs → IsRelinked n (layers_of gs) new t → t < 8 → IsRewriting n gs new t

@@ -23,9 +23,9 @@ use Rattle.path_parity.proofs.MergeSums as merge
 use Rattle.gf2_linear.proofs.MatrixLaws.{length-identity}
 use Rattle.gf2_linear.proofs.RunLaws.{get-identity}
 use Rattle.phase_poly.specs.Rows.{has}
-use Rattle.circuit_layers.specs.Layers.{LayerBody, hadamards, linked}
+use Rattle.circuit_layers.specs.Layers.{LayerBody, hadamards_on, linked}
 use Rattle.phase_poly.specs.Polys.{AreDihedral, coefficient, first_poly, walked_poly, SamePoly}
-use Rattle.phase_poly.specs.Replaced.{IsTaken, IsReplaced, DihedralLayers}
+use Rattle.phase_poly.specs.Replaced.{IsLayerTaken, IsReplaced, DihedralLayers}
 use Rattle.phase_poly.proofs.PolyLaws.{Agrees, agrees_all, flip_turn, same_walk, walked_coefficient, walked_constant}
 use Rattle.phase_poly.proofs.LayerSums.{SameMarks, no_hadamards, layer_last, layer_totals, layer_constant}
 use Rattle.phase_poly.proofs.ListSums.{Alike, seen_last, alike_refl, alike_trans, alike_same, alike_after, alike_before}
@@ -99,7 +99,7 @@ poly_alike : (n t : ℕ) (A B : List Gate) → AreDihedral n A → AreDihedral n
 poly_alike n t A B fa fb s = alike_layer n t A B fa fb (own_last n t A B fa fb s) (own_marks n t A B fa fb s) (own_constants n t A B fa fb s)
 
 -- ---- layers
-taken_alike : (n t : ℕ) (A B : List Gate) → AreDihedral n A → IsTaken n A B t → Alike n t A B
+taken_alike : (n t : ℕ) (A B : List Gate) → AreDihedral n A → IsLayerTaken n A B t → Alike n t A B
 taken_alike n t A B f (inl h) = subst (λ k. Alike n k A B) (sym h.1) (subst (Alike n 0 A) (sym h.0) (alike_refl n A))
 taken_alike n t A B f (inr h) = poly_alike n t A B f h.0.dihedral h.0.poly
 
@@ -114,7 +114,7 @@ replaced_alike n t (l ∷ ls) (m ∷ ms) f h =
     let one = taken_alike n h.1.0 l.gates m.gates f.0 h.1.1.1.0 in
     let rest = replaced_alike n h.1.1.0 ls ms f.1 h.1.1.1.1.0 in
     alike_same n (h.1.0 + h.1.1.0) t (linked (l ∷ ls)) (linked (m ∷ ms)) (let e = h.1.1.1.1.1 in omega (arith, e))
-    (subst (λ qs. Alike n (h.1.0 + h.1.1.0) (linked (l ∷ ls)) ((m.gates ++ hadamards qs) ++ linked ms)) (sym h.0)
-    (both_alike n h.1.0 h.1.1.0 l.gates m.gates (hadamards l.hadamards) (linked ls) (linked ms) one rest))
+    (subst (λ qs. Alike n (h.1.0 + h.1.1.0) (linked (l ∷ ls)) ((m.gates ++ hadamards_on qs) ++ linked ms)) (sym h.0)
+    (both_alike n h.1.0 h.1.1.0 l.gates m.gates (hadamards_on l.hadamards) (linked ls) (linked ms) one rest))
 replaced_alike n t [] (m ∷ ms) f h = absurd h
 replaced_alike n t (l ∷ ls) [] f h = absurd h

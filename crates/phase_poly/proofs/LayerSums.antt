@@ -17,7 +17,7 @@ use Rattle.std.proofs.lemmas.Nat.Bits.{bit_at_xor, bit_at-pow_same, bit_at-pow_o
 use Rattle.circuit_list.specs.declared.Gate.{Gate}
 use Rattle.circuit_list.specs.declared.Gate.TheVariants.{H, X, P, Cx}
 use Rattle.unitary_model.specs.Acts.{Bits}
-use Rattle.path_parity.specs.PathSum.{PathLabel, label, xor, odd_over, value, Wires, with_label, add_labels, flipped, own_labels, last_labels}
+use Rattle.path_parity.specs.PathSum.{PathLabel, label, xor, odd_over, label_value, Wires, with_label, add_labels, flipped, own_labels, last_labels}
 use Rattle.path_parity.specs.NamedSums.{Seen, named_last, hadamards, terms, constant, total}
 use Rattle.path_parity.proofs.PathSumLaws.{value-add, value-flipped, odd_over_own, xor_false}
 use Rattle.path_parity.proofs.Totals.{sum_on, by_totals}
@@ -36,7 +36,7 @@ abbrev pub bits : Wires → Bits
 bits w = λ q. (w q).bit
 
 abbrev pub through : ℕ → Wires → PathLabel → PathLabel
-through n w l = label (set_by n w l.variables) (value n (bits w) l)
+through n w l = label (set_by n w l.variables) (label_value n (bits w) l)
 
 swap : (a b x y : ℕ) → bit_xor (bit_xor a b) (bit_xor x y) ≡ bit_xor (bit_xor a x) (bit_xor b y)
 swap a b x y =

@@ -23,13 +23,13 @@ use Rattle.path_parity.proofs.Totals.{sum_on, by_totals}
 use Rattle.path_parity.proofs.MergeLaws.{marks, start, odd_over_none}
 use Rattle.path_parity.proofs.MergeSums.{signed, phase_sum-signed}
 use Rattle.path_parity.proofs.LayerLaws.{applied-flat}
-use Rattle.gf2_linear.specs.Matrices.{identity_rows, added, run}
+use Rattle.gf2_linear.specs.Matrices.{identity_rows, added, added_all}
 use Rattle.gf2_linear.proofs.MatrixLaws.{length-identity}
 use Rattle.gf2_linear.proofs.RunLaws.{get-identity}
 use Rattle.phase_poly.specs.Rows.{has}
 use Rattle.phase_poly.specs.Polys.{AreDihedral, Term, first_poly, walked_poly, poly_of}
-use Rattle.phase_poly.specs.Resynthesis.{cnots}
-use Rattle.phase_poly.specs.Meaning.{parity, values, image, odd_sum, exponent_of}
+use Rattle.phase_poly.specs.Resynthesis.{cnot_gates}
+use Rattle.phase_poly.specs.Meaning.{row_parity, row_parities, image, odd_sum, exponent_of}
 use Rattle.phase_poly.proofs.PolyLaws.{Agrees, coefficient-total, coefficient-filter, agrees_first, agrees_all, exponent-dihedral, no_had, eighths, totals, constants}
 
 -- ---- the bits at the end
@@ -39,14 +39,14 @@ unfolding bits_of
 image-front gs x f =
     let n = length x in
     let a : Agrees n (walked_poly n gs) (last_labels gs (start n (bit_of x)) n) = agrees_all n gs (first_poly n) (start n (bit_of x)) f (agrees_first n (bit_of x)) in
-    front-same n (bits_of n (bit_of x) (last_labels gs (start n (bit_of x)) n)) (λ q. xor (parity x (get_or (walked_poly n gs).map q 0)) (has (walked_poly n gs).flips q))
+    front-same n (bits_of n (bit_of x) (last_labels gs (start n (bit_of x)) n)) (λ q. xor (row_parity x (get_or (walked_poly n gs).map q 0)) (has (walked_poly n gs).flips q))
     (λ q l i. xor (odd_over n (bit_of x) (sym (a.rows q l) i)) (sym (a.bits q l) i))
-    ∙ front-identity n (λ q. xor (parity x (get_or (walked_poly n gs).map q 0)) (has (walked_poly n gs).flips q))
+    ∙ front-identity n (λ q. xor (row_parity x (get_or (walked_poly n gs).map q 0)) (has (walked_poly n gs).flips q))
 
 -- ---- the power of w
 odd_sum-sum_on : (ts : List Term) (x : List Bool) → odd_sum ts x ≡ sum_on (odd_over (length x) (bit_of x)) ts
 odd_sum-sum_on [] x = refl
-odd_sum-sum_on (e ∷ ts) x = ap (λ z. cond (parity x e.0) e.1 0 + z) (odd_sum-sum_on ts x)
+odd_sum-sum_on (e ∷ ts) x = ap (λ z. cond (row_parity x e.0) e.1 0 + z) (odd_sum-sum_on ts x)
 
 exponent-terms : (gs : List Gate) (x : List Bool) → AreDihedral (length x) gs →
     exponent (length x) (bit_of x) gs (start (length x) (bit_of x)) (length x) % 8 ≡ exponent_of (poly_of (length x) gs) x % 8
@@ -106,15 +106,15 @@ image-elsewhere n gs x y f e h = whole (subst (λ k. AreDihedral k gs) (sym e) f
         ∙ ap (double (weight (ops gs))) (turn-nought k) ∙ double-nought (weight (ops gs))
 
 -- ---- CNOTs on the values of rows
-read : (x : List Bool) (rows : List ℕ) (i : ℕ) → bit_of (values rows x) i ≡ parity x (get_or rows i 0)
+read : (x : List Bool) (rows : List ℕ) (i : ℕ) → bit_of (row_parities rows x) i ≡ row_parity x (get_or rows i 0)
 read x [] i = sym (odd_over_none (length x) (bit_of x))
 read x (r ∷ rows) zero = refl
 read x (r ∷ rows) (suc i) = read x rows i
 
-written : (x : List Bool) (rows : List ℕ) (t r : ℕ) → with_bit (values rows x) t (parity x r) ≡ values (set rows t r) x
+written : (x : List Bool) (rows : List ℕ) (t r : ℕ) → with_bit (row_parities rows x) t (row_parity x r) ≡ row_parities (set rows t r) x
 written x [] t r = refl
 written x (s ∷ rows) zero r = refl
-written x (s ∷ rows) (suc t) r = ap (λ z. parity x s ∷ z) (written x rows t r)
+written x (s ∷ rows) (suc t) r = ap (λ z. row_parity x s ∷ z) (written x rows t r)
 
 own_bit : (u : List Bool) (t : ℕ) → with_bit u t (bit_of u t) ≡ u
 own_bit [] t = refl
@@ -122,51 +122,51 @@ own_bit (b ∷ u) zero = refl
 own_bit (b ∷ u) (suc t) = ap (λ z. b ∷ z) (own_bit u t)
 
 cnot_on : (x : List Bool) (rows : List ℕ) (c t : ℕ) →
-    cond (bit_of (values rows x) c) (with_bit (values rows x) t (not (bit_of (values rows x) t))) (values rows x) ≡ values (added rows (c, t)) x
+    cond (bit_of (row_parities rows x) c) (with_bit (row_parities rows x) t (not (bit_of (row_parities rows x) t))) (row_parities rows x) ≡ row_parities (added rows (c, t)) x
 unfolding added
-cnot_on x rows c t = go (bit_of (values rows x) c)
-    ∙ ap (with_bit (values rows x) t) ((λ i. xor (read x rows t i) (read x rows c i)) ∙ sym (odd_over-xor (length x) (bit_of x) (get_or rows t 0) (get_or rows c 0)))
+cnot_on x rows c t = go (bit_of (row_parities rows x) c)
+    ∙ ap (with_bit (row_parities rows x) t) ((λ i. xor (read x rows t i) (read x rows c i)) ∙ sym (odd_over-xor (length x) (bit_of x) (get_or rows t 0) (get_or rows c 0)))
     ∙ written x rows t (bit_xor (get_or rows t 0) (get_or rows c 0))
   where
     turned : (b : Bool) → not b ≡ xor b true
     turned true = refl
     turned false = refl
 
-    go : (b : Bool) → cond b (with_bit (values rows x) t (not (bit_of (values rows x) t))) (values rows x) ≡ with_bit (values rows x) t (xor (bit_of (values rows x) t) b)
-    go true = ap (with_bit (values rows x) t) (turned (bit_of (values rows x) t))
-    go false = sym (ap (with_bit (values rows x) t) (xor_false (bit_of (values rows x) t)) ∙ own_bit (values rows x) t)
+    go : (b : Bool) → cond b (with_bit (row_parities rows x) t (not (bit_of (row_parities rows x) t))) (row_parities rows x) ≡ with_bit (row_parities rows x) t (xor (bit_of (row_parities rows x) t) b)
+    go true = ap (with_bit (row_parities rows x) t) (turned (bit_of (row_parities rows x) t))
+    go false = sym (ap (with_bit (row_parities rows x) t) (xor_false (bit_of (row_parities rows x) t)) ∙ own_bit (row_parities rows x) t)
 
-amplitude-cnots : (rows : List ℕ) (pairs : List (ℕ × ℕ)) (x y : List Bool) → amplitude (ops (cnots pairs)) (values rows x) y ≡ cond (same_bits (values (run rows pairs) x) y) unit nought
+amplitude-cnots : (rows : List ℕ) (pairs : List (ℕ × ℕ)) (x y : List Bool) → amplitude (ops (cnot_gates pairs)) (row_parities rows x) y ≡ cond (same_bits (row_parities (added_all rows pairs) x) y) unit nought
 amplitude-cnots rows [] x y = refl
-amplitude-cnots rows (e ∷ pairs) x y = ap (λ u. amplitude (ops (cnots pairs)) u y) (cnot_on x rows e.0 e.1) ∙ amplitude-cnots (added rows e) pairs x y
+amplitude-cnots rows (e ∷ pairs) x y = ap (λ u. amplitude (ops (cnot_gates pairs)) u y) (cnot_on x rows e.0 e.1) ∙ amplitude-cnots (added rows e) pairs x y
 
-pub cnots-entry : (rows : List ℕ) (pairs : List (ℕ × ℕ)) (x : List Bool) → amplitude (ops (cnots pairs)) (values rows x) (values (run rows pairs) x) ≡ unit
-cnots-entry rows pairs x = amplitude-cnots rows pairs x (values (run rows pairs) x) ∙ ap (λ b. cond b unit nought) (same_bits-refl (values (run rows pairs) x))
+pub cnots-entry : (rows : List ℕ) (pairs : List (ℕ × ℕ)) (x : List Bool) → amplitude (ops (cnot_gates pairs)) (row_parities rows x) (row_parities (added_all rows pairs) x) ≡ unit
+cnots-entry rows pairs x = amplitude-cnots rows pairs x (row_parities (added_all rows pairs) x) ∙ ap (λ b. cond b unit nought) (same_bits-refl (row_parities (added_all rows pairs) x))
 
-pub cnots-elsewhere : (rows : List ℕ) (pairs : List (ℕ × ℕ)) (x y : List Bool) → y ≢ values (run rows pairs) x → amplitude (ops (cnots pairs)) (values rows x) y ≡ nought
-cnots-elsewhere rows pairs x y h = amplitude-cnots rows pairs x y ∙ ap (λ b. cond b unit nought) (differ (values (run rows pairs) x) y h)
+pub cnots-elsewhere : (rows : List ℕ) (pairs : List (ℕ × ℕ)) (x y : List Bool) → y ≢ row_parities (added_all rows pairs) x → amplitude (ops (cnot_gates pairs)) (row_parities rows x) y ≡ nought
+cnots-elsewhere rows pairs x y h = amplitude-cnots rows pairs x y ∙ ap (λ b. cond b unit nought) (differ (row_parities (added_all rows pairs) x) y h)
 
 bit_of-get : (x : List Bool) (i : ℕ) → get_or x i false ≡ bit_of x i
 bit_of-get [] i = refl
 bit_of-get (b ∷ x) zero = refl
 bit_of-get (b ∷ x) (suc i) = bit_of-get x i
 
-pub values-identity : (n : ℕ) (x : List Bool) → length x ≡ n → values (identity_rows n) x ≡ x
-values-identity n x e = ext_get_or false (values (identity_rows n) x) x (long ∙ sym e)
+pub values-identity : (n : ℕ) (x : List Bool) → length x ≡ n → row_parities (identity_rows n) x ≡ x
+values-identity n x e = ext_get_or false (row_parities (identity_rows n) x) x (long ∙ sym e)
     (λ k l. let h : k < n = subst (λ m. k < m) long l in
-    get_or-map (parity x) (identity_rows n) k 0 false (subst (λ m. k < m) (sym (length-identity n)) h)
-    ∙ ap (parity x) (get-identity n k h) ∙ odd_over_own (length x) k (bit_of x) (subst (λ m. k < m) (sym e) h) ∙ sym (bit_of-get x k))
+    get_or-map (row_parity x) (identity_rows n) k 0 false (subst (λ m. k < m) (sym (length-identity n)) h)
+    ∙ ap (row_parity x) (get-identity n k h) ∙ odd_over_own (length x) k (bit_of x) (subst (λ m. k < m) (sym e) h) ∙ sym (bit_of-get x k))
   where
-    long : length (values (identity_rows n) x) ≡ n
-    long = length-map (identity_rows n) (parity x) ∙ length-identity n
+    long : length (row_parities (identity_rows n) x) ≡ n
+    long = length-map (identity_rows n) (row_parity x) ∙ length-identity n
 
-pub synth-entry : (matrix : List ℕ) (pairs : List (ℕ × ℕ)) (x : List Bool) → length x ≡ length matrix → run (identity_rows (length matrix)) pairs ≡ matrix →
-    amplitude (ops (cnots pairs)) x (values matrix x) ≡ unit
+pub synth-entry : (matrix : List ℕ) (pairs : List (ℕ × ℕ)) (x : List Bool) → length x ≡ length matrix → added_all (identity_rows (length matrix)) pairs ≡ matrix →
+    amplitude (ops (cnot_gates pairs)) x (row_parities matrix x) ≡ unit
 synth-entry matrix pairs x e r =
-    (λ i. amplitude (ops (cnots pairs)) (sym (values-identity (length matrix) x e) i) (values (sym r i) x)) ∙ cnots-entry (identity_rows (length matrix)) pairs x
+    (λ i. amplitude (ops (cnot_gates pairs)) (sym (values-identity (length matrix) x e) i) (row_parities (sym r i) x)) ∙ cnots-entry (identity_rows (length matrix)) pairs x
 
-pub synth-elsewhere : (matrix : List ℕ) (pairs : List (ℕ × ℕ)) (x y : List Bool) → length x ≡ length matrix → run (identity_rows (length matrix)) pairs ≡ matrix →
-    y ≢ values matrix x → amplitude (ops (cnots pairs)) x y ≡ nought
+pub synth-elsewhere : (matrix : List ℕ) (pairs : List (ℕ × ℕ)) (x y : List Bool) → length x ≡ length matrix → added_all (identity_rows (length matrix)) pairs ≡ matrix →
+    y ≢ row_parities matrix x → amplitude (ops (cnot_gates pairs)) x y ≡ nought
 synth-elsewhere matrix pairs x y e r h =
-    ap (λ z. amplitude (ops (cnots pairs)) z y) (sym (values-identity (length matrix) x e))
-    ∙ cnots-elsewhere (identity_rows (length matrix)) pairs x y (subst (λ (m : List ℕ). y ≢ values m x) (sym r) h)
+    ap (λ z. amplitude (ops (cnot_gates pairs)) z y) (sym (values-identity (length matrix) x e))
+    ∙ cnots-elsewhere (identity_rows (length matrix)) pairs x y (subst (λ (m : List ℕ). y ≢ row_parities m x) (sym r) h)

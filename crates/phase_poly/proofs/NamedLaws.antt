@@ -30,7 +30,7 @@ use Rattle.gf2_linear.proofs.RunLaws.{get-identity, length-added, added-at, adde
 use Rattle.matroid_partition.specs.Partitions.{IsPartition}
 use Rattle.phase_poly.specs.Rows.{has}
 use Rattle.phase_poly.specs.Polys.{AreDihedral, IsDihedral, Term, coefficient, with_term, PolyBody, first_poly, polyed, polyed_all, walked_poly, poly_of, SamePoly}
-use Rattle.phase_poly.specs.Resynthesis.{rows_of, IsResynthesis}
+use Rattle.phase_poly.specs.Resynthesis.{rows_of_terms, IsResynthesis}
 use Rattle.phase_poly.specs.Named.{named, named_all}
 use Rattle.phase_poly.proofs.PolyLaws.{coefficient-filter}
 use Rattle.phase_poly.proofs.MapLaws.{AreRows, Settled, settled, settled_first}
@@ -374,14 +374,14 @@ resynthesis_named n t ns A B a f h = record {
 }
 
 -- ---- blocks
-rows-spread : (ns : List ℕ) (ts : List Term) → rows_of (spread_terms ns ts) ≡ map (spread ns) (rows_of ts)
+rows-spread : (ns : List ℕ) (ts : List Term) → rows_of_terms (spread_terms ns ts) ≡ map (spread ns) (rows_of_terms ts)
 rows-spread ns [] = refl
 rows-spread ns (e ∷ ts) = ap (λ z. spread ns e.0 ∷ z) (rows-spread ns ts)
 
-named_rows : (n : ℕ) (ns : List ℕ) (gs : List Gate) → AreNames n ns → AreDihedral (length ns) gs → rows_of (poly_of n (named_all ns gs)).terms ≡ map (spread ns) (rows_of (poly_of (length ns) gs).terms)
+named_rows : (n : ℕ) (ns : List ℕ) (gs : List Gate) → AreNames n ns → AreDihedral (length ns) gs → rows_of_terms (poly_of n (named_all ns gs)).terms ≡ map (spread ns) (rows_of_terms (poly_of (length ns) gs).terms)
 named_rows n ns gs a f =
-    ap (λ (ts : List Term). rows_of (filter (λ e. not (e.1 == 0)) ts)) (poly_spread n ns gs a f).terms
-    ∙ ap rows_of (filter-spread ns (walked_poly (length ns) gs).terms) ∙ rows-spread ns (poly_of (length ns) gs).terms
+    ap (λ (ts : List Term). rows_of_terms (filter (λ e. not (e.1 == 0)) ts)) (poly_spread n ns gs a f).terms
+    ∙ ap rows_of_terms (filter-spread ns (walked_poly (length ns) gs).terms) ∙ rows-spread ns (poly_of (length ns) gs).terms
 
 map-get : (f : ℕ → ℕ) (xs : List ℕ) (i : ℕ) → f 0 ≡ 0 → get_or (map f xs) i 0 ≡ f (get_or xs i 0)
 map-get f [] i z = sym z
@@ -403,5 +403,5 @@ partition_back ns rows blocks h = record {
 }
 
 pub few_named : (n : ℕ) (ns : List ℕ) (A : List Gate) (blocks : List (List ℕ)) → AreNames n ns → AreDihedral (length ns) A →
-    IsPartition (rows_of (poly_of n (named_all ns A)).terms) blocks → IsPartition (rows_of (poly_of (length ns) A).terms) blocks
-few_named n ns A blocks a f h = partition_back ns (rows_of (poly_of (length ns) A).terms) blocks (subst (λ (rs : List ℕ). IsPartition rs blocks) (named_rows n ns A a f) h)
+    IsPartition (rows_of_terms (poly_of n (named_all ns A)).terms) blocks → IsPartition (rows_of_terms (poly_of (length ns) A).terms) blocks
+few_named n ns A blocks a f h = partition_back ns (rows_of_terms (poly_of (length ns) A).terms) blocks (subst (λ (rs : List ℕ). IsPartition rs blocks) (named_rows n ns A a f) h)

@@ -23,11 +23,11 @@ use Rattle.gf2_linear.proofs.WireLaws.{bit_or_not}
 use Rattle.gf2_linear.proofs.SumLaws.{IsSumAt-places}
 use Rattle.gf2_linear.proofs.MatrixLaws.{length-identity}
 use Rattle.phase_poly.specs.Polys.{AreDihedral, IsDihedral, poly_of}
-use Rattle.phase_poly.specs.Resynthesis.{cx_bound, rows_of, IsResynthesis}
+use Rattle.phase_poly.specs.Resynthesis.{cx_bound, rows_of_terms, IsResynthesis}
 use Rattle.matroid_partition.specs.Partitions.{IsPartition}
 use Rattle.unitary_model.specs.Operations.{cx_count}
 use Rattle.circuit_list.specs.Gates.{ops}
-use Rattle.phase_poly.specs.Named.{named, named_all, IsMarked, AreMarked, Knows, AreKnown}
+use Rattle.phase_poly.specs.Named.{named, named_all, HasWiresIn, HaveWiresIn, Knows, AreKnown}
 use Rattle.phase_poly.proofs.BuildLaws.{dihedral-append}
 use Rattle.phase_poly.proofs.BuildingLaws.{bound-wider}
 use Rattle.phase_poly.proofs.TermLaws.{dihedral-at}
@@ -48,20 +48,20 @@ mark-kept s t q e h w o = elim (cases_eq w q) [
   | inr d ↦ ap (λ k. bit_at k w) e ∙ bit_at_xor s (2 ^ q) w ∙ ap (λ k. (k + bit_at (2 ^ q) w) % 2) o ∙ ap (λ k. (1 + k) % 2) (bit_at-pow_other q w d)
 ]
 
-marked-kept : (s t : ℕ) (gs : List Gate) → ((w : ℕ) → bit_at s w ≡ 1 → bit_at t w ≡ 1) → AreMarked s gs → AreMarked t gs
+marked-kept : (s t : ℕ) (gs : List Gate) → ((w : ℕ) → bit_at s w ≡ 1 → bit_at t w ≡ 1) → HaveWiresIn s gs → HaveWiresIn t gs
 marked-kept s t [] k h = tt
 marked-kept s t (H q ∷ gs) k h = (k q h.0, marked-kept s t gs k h.1)
 marked-kept s t (X q ∷ gs) k h = (k q h.0, marked-kept s t gs k h.1)
 marked-kept s t (P j q ∷ gs) k h = (k q h.0, marked-kept s t gs k h.1)
 marked-kept s t (Cx c u ∷ gs) k h = ((k c h.0.0, k u h.0.1), marked-kept s t gs k h.1)
 
-marked-append : (s : ℕ) (A B : List Gate) → AreMarked s A → AreMarked s B → AreMarked s (A ++ B)
+marked-append : (s : ℕ) (A B : List Gate) → HaveWiresIn s A → HaveWiresIn s B → HaveWiresIn s (A ++ B)
 marked-append s [] B f g = g
 marked-append s (x ∷ A) B f g = (f.0, marked-append s A B f.1 g)
 
-pub marked-more : (gs : List Gate) (i : ℕ) (d : Gate) (s t : ℕ) → i < length gs → ((w : ℕ) → bit_at s w ≡ 1 → bit_at t w ≡ 1) → AreMarked s (take i gs) → IsMarked t (get_or gs i d) → AreMarked t (take (i + 1) gs)
+pub marked-more : (gs : List Gate) (i : ℕ) (d : Gate) (s t : ℕ) → i < length gs → ((w : ℕ) → bit_at s w ≡ 1 → bit_at t w ≡ 1) → HaveWiresIn s (take i gs) → HasWiresIn t (get_or gs i d) → HaveWiresIn t (take (i + 1) gs)
 marked-more gs i d s t l k h m =
-    subst (AreMarked t) (sym (take-suc gs i d l) ∙ ap (λ j. take j gs) (one i)) (marked-append t (take i gs) (get_or gs i d ∷ []) (marked-kept s t (take i gs) k h) (m, tt))
+    subst (HaveWiresIn t) (sym (take-suc gs i d l) ∙ ap (λ j. take j gs) (one i)) (marked-append t (take i gs) (get_or gs i d ∷ []) (marked-kept s t (take i gs) k h) (m, tt))
 
 pub dihedral-wider : (n m : ℕ) (g : Gate) → n ≤ m → IsDihedral n g → IsDihedral m g
 dihedral-wider n m (H q) l h = absurd h
@@ -128,10 +128,10 @@ places-has (suc n) set w l h = elim (cases_eq w n) [
       | inr c ↦ let e : w ≡ n = omega (arith, l, c) in absurd (d e)
     ]
 
-pub known : (n set : ℕ) (ns : List ℕ) (gs : List Gate) → ns ≡ places_in n set → AreDihedral n gs → AreMarked set gs → AreKnown ns gs
+pub known : (n set : ℕ) (ns : List ℕ) (gs : List Gate) → ns ≡ places_in n set → AreDihedral n gs → HaveWiresIn set gs → AreKnown ns gs
 known n set ns gs e f h = subst (λ (m : List ℕ). AreKnown m gs) (sym e) (go gs f h)
   where
-    go : (gs : List Gate) → AreDihedral n gs → AreMarked set gs → AreKnown (places_in n set) gs
+    go : (gs : List Gate) → AreDihedral n gs → HaveWiresIn set gs → AreKnown (places_in n set) gs
     go [] f h = tt
     go (H q ∷ gs) f h = absurd f.0
     go (X q ∷ gs) f h = (places-has n set q f.0 h.0, go gs f.1 h.1)
@@ -185,13 +185,13 @@ resynth_named n t l ns ms list gs hs part last new a el em eh eg f h ep en =
     (resynthesis_named n t ns gs part a f (subst (λ k. IsResynthesis k gs part t) el (subst (λ (z : List Gate). IsResynthesis l z part t) eh h))))
 
 pub resynth_few : (n l : ℕ) (ns ms : List ℕ) (list gs hs part last new : List Gate) → AreNames n ns → l ≡ length ns → ms ≡ ns → hs ≡ gs → named_all ns gs ≡ list →
-    AreDihedral (length ns) gs → ((blocks : List (List ℕ)) → IsPartition (rows_of (poly_of l hs).terms) blocks → cx_count (ops part) ≤ cx_bound l (length blocks)) → last ≡ part → new ≡ named_all ms last →
-    (blocks : List (List ℕ)) → IsPartition (rows_of (poly_of n list).terms) blocks → cx_count (ops new) ≤ cx_bound n (length blocks)
+    AreDihedral (length ns) gs → ((blocks : List (List ℕ)) → IsPartition (rows_of_terms (poly_of l hs).terms) blocks → cx_count (ops part) ≤ cx_bound l (length blocks)) → last ≡ part → new ≡ named_all ms last →
+    (blocks : List (List ℕ)) → IsPartition (rows_of_terms (poly_of n list).terms) blocks → cx_count (ops new) ≤ cx_bound n (length blocks)
 resynth_few n l ns ms list gs hs part last new a el em eh eg f h ep en blocks g =
-    let here : IsPartition (rows_of (poly_of (length ns) gs).terms) blocks =
-    few_named n ns gs blocks a f (subst (λ (z : List Gate). IsPartition (rows_of (poly_of n z).terms) blocks) (sym eg) g) in
-    let there : IsPartition (rows_of (poly_of l hs).terms) blocks =
-    subst (λ k. IsPartition (rows_of (poly_of k hs).terms) blocks) (sym el) (subst (λ (z : List Gate). IsPartition (rows_of (poly_of (length ns) z).terms) blocks) (sym eh) here) in
+    let here : IsPartition (rows_of_terms (poly_of (length ns) gs).terms) blocks =
+    few_named n ns gs blocks a f (subst (λ (z : List Gate). IsPartition (rows_of_terms (poly_of n z).terms) blocks) (sym eg) g) in
+    let there : IsPartition (rows_of_terms (poly_of l hs).terms) blocks =
+    subst (λ k. IsPartition (rows_of_terms (poly_of k hs).terms) blocks) (sym el) (subst (λ (z : List Gate). IsPartition (rows_of_terms (poly_of (length ns) z).terms) blocks) (sym eh) here) in
     let few : cx_count (ops part) ≤ cx_bound (length ns) (length blocks) = subst (λ k. cx_count (ops part) ≤ cx_bound k (length blocks)) el (h blocks there) in
     subst (λ k. k ≤ cx_bound n (length blocks)) (sym (ap (λ (z : List Gate). cx_count (ops z)) (en ∙ (λ i. named_all (em i) (ep i))) ∙ named_cx ns part))
     (bound-wider (length ns) n (length blocks) (cx_count (ops part)) a.few few)

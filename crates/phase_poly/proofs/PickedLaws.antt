@@ -5,7 +5,7 @@ use Rattle.std.specs.Prelude.{nat_eq}
 use Rattle.std.proofs.lemmas.Bool.Decides.{nat_tests}
 use Rattle.std.proofs.Math.Nat.{add-mul}
 use Rattle.gf2_linear.specs.Wide.{count_of}
-use Rattle.matroid_partition.specs.Partitions.{times}
+use Rattle.matroid_partition.specs.Partitions.{occurrences}
 use Rattle.phase_poly.specs.Polys.{Term, coefficient}
 use Rattle.phase_poly.specs.Resynthesis.{odd_terms, at_places, picked, AllBelow, BlocksBelow}
 
@@ -91,14 +91,14 @@ sum_places f ts (p ∷ ps) h =
     (λ j. (sym (sum_by-only f 0 p ts h.0) ∙ ap (λ q. sum_by (only q) f 0 ts) (zero-add p)) j + sum_places f ts ps h.1 j)
     ∙ sym (sum_by-plus (only p) (λ i. count_of i ps) f 0 ts)
 
-sum_picked : (f : Term → ℕ) (ts : List Term) (blocks : List (List ℕ)) → BlocksBelow (length ts) blocks → sum_of f (picked ts blocks) ≡ sum_by (λ i. times i blocks) f 0 ts
+sum_picked : (f : Term → ℕ) (ts : List Term) (blocks : List (List ℕ)) → BlocksBelow (length ts) blocks → sum_of f (picked ts blocks) ≡ sum_by (λ i. occurrences i blocks) f 0 ts
 sum_picked f ts [] h = sym (sum_by-zero f 0 ts)
 sum_picked f ts (b ∷ blocks) h = sum_of-append f (at_places ts b) (picked ts blocks)
     ∙ (λ j. sum_places f ts b h.0 j + sum_picked f ts blocks h.1 j)
-    ∙ sym (sum_by-plus (λ i. count_of i b) (λ i. times i blocks) f 0 ts)
+    ∙ sym (sum_by-plus (λ i. count_of i b) (λ i. occurrences i blocks) f 0 ts)
 
-pub picked_sum : (f : Term → ℕ) (ts : List Term) (blocks : List (List ℕ)) → BlocksBelow (length ts) blocks → ((i : ℕ) → i < length ts → times i blocks ≡ 1) → sum_of f (picked ts blocks) ≡ sum_of f ts
-picked_sum f ts blocks h once = sum_picked f ts blocks h ∙ sum_by-ones (λ i. times i blocks) f 0 ts (λ j a b. once j (omega arith))
+pub picked_sum : (f : Term → ℕ) (ts : List Term) (blocks : List (List ℕ)) → BlocksBelow (length ts) blocks → ((i : ℕ) → i < length ts → occurrences i blocks ≡ 1) → sum_of f (picked ts blocks) ≡ sum_of f ts
+picked_sum f ts blocks h once = sum_picked f ts blocks h ∙ sum_by-ones (λ i. occurrences i blocks) f 0 ts (λ j a b. once j (omega arith))
 
 coefficient_sum : (m : ℕ) (ts : List Term) → coefficient m ts ≡ sum_of (λ e. cond (nat_eq e.0 m) e.1 0) ts
 coefficient_sum m [] = refl
@@ -108,8 +108,8 @@ odd_sum : (ts : List Term) → odd_terms ts ≡ sum_of (λ e. e.1 % 2) ts
 odd_sum [] = refl
 odd_sum (e ∷ ts) = ap (λ z. e.1 % 2 + z) (odd_sum ts)
 
-pub picked_coefficient : (m : ℕ) (ts : List Term) (blocks : List (List ℕ)) → BlocksBelow (length ts) blocks → ((i : ℕ) → i < length ts → times i blocks ≡ 1) → coefficient m (picked ts blocks) ≡ coefficient m ts
+pub picked_coefficient : (m : ℕ) (ts : List Term) (blocks : List (List ℕ)) → BlocksBelow (length ts) blocks → ((i : ℕ) → i < length ts → occurrences i blocks ≡ 1) → coefficient m (picked ts blocks) ≡ coefficient m ts
 picked_coefficient m ts blocks h once = coefficient_sum m (picked ts blocks) ∙ picked_sum (λ e. cond (nat_eq e.0 m) e.1 0) ts blocks h once ∙ sym (coefficient_sum m ts)
 
-pub picked_odd : (ts : List Term) (blocks : List (List ℕ)) → BlocksBelow (length ts) blocks → ((i : ℕ) → i < length ts → times i blocks ≡ 1) → odd_terms (picked ts blocks) ≡ odd_terms ts
+pub picked_odd : (ts : List Term) (blocks : List (List ℕ)) → BlocksBelow (length ts) blocks → ((i : ℕ) → i < length ts → occurrences i blocks ≡ 1) → odd_terms (picked ts blocks) ≡ odd_terms ts
 picked_odd ts blocks h once = odd_sum (picked ts blocks) ∙ picked_sum (λ e. e.1 % 2) ts blocks h once ∙ sym (odd_sum ts)

@@ -17,14 +17,14 @@ use Rattle.unitary_model.specs.Acts.{Bits, Turns}
 use Rattle.unitary_model.specs.OddPaths.{Labels, own_variables, odd_paths}
 use Rattle.unitary_model.specs.OddPaths as paths
 use Rattle.unitary_model.specs.Paths.{Covers, events}
-use Rattle.unitary_model.specs.Paths.Event.{Toggle}
+use Rattle.unitary_model.specs.Paths.PathEvent.{Toggle}
 use Rattle.unitary_model.proofs.FlatPaths.{Flat, final, toggled_labels, flat_covers}
 use Rattle.unitary_model.proofs.PathLaws.{par, Covers-size}
 use Rattle.unitary_model.proofs.OddPathsForm.{odd_paths-events}
 use Rattle.circuit_list.specs.declared.Gate.{Gate}
 use Rattle.circuit_list.specs.declared.Gate.TheVariants.{H, X, P, Cx}
 use Rattle.circuit_list.specs.Gates.{ops}
-use Rattle.path_parity.specs.PathSum.{label, xor, Wires, with_label, add_labels, flipped, fresh, last_labels, exponent, odd_over, value}
+use Rattle.path_parity.specs.PathSum.{label, xor, Wires, with_label, add_labels, flipped, fresh, last_labels, exponent, odd_over, label_value}
 use Rattle.path_parity.specs.PathForm.{hcount}
 use Rattle.path_parity.proofs.PathSumLaws.{bits_of}
 use Rattle.path_parity.proofs.Totals.{total, by_totals}
@@ -244,7 +244,7 @@ pub exponent-dihedral : (N : ℕ) (v : Bits) (n : ℕ) (gs : List Gate) (w : Wir
 exponent-dihedral N v n [] w f = refl
 exponent-dihedral N v n (H q ∷ gs) w f = absurd f.0
 exponent-dihedral N v n (X q ∷ gs) w f = let r = exponent-dihedral N v n gs (with_label w q (flipped (w q))) f.1 in omega (arith, r)
-exponent-dihedral N v n (P k q ∷ gs) w f = ap (λ z. z + cond (value N v (w q)) k 0) (exponent-dihedral N v n gs w f.1) ∙ sums (phase_sum N v (marks gs w n)) (flip_turn gs) (cond (value N v (w q)) k 0)
+exponent-dihedral N v n (P k q ∷ gs) w f = ap (λ z. z + cond (label_value N v (w q)) k 0) (exponent-dihedral N v n gs w f.1) ∙ sums (phase_sum N v (marks gs w n)) (flip_turn gs) (cond (label_value N v (w q)) k 0)
   where
     sums : (a t e : ℕ) → a + t + e ≡ e + a + t
     sums a t e = omega arith
@@ -317,12 +317,12 @@ same_turns n t A B fa fb s =
     let ca = constants n A x fa in let cb = constants n B x fb in let c = W.constant in
     omega (arith, ea, eb, pa, pb, sums, ca, cb, c))
   where
-    bit : (x : Bits) (q : ℕ) → (q < n) ⊎ (n ≤ q) → SameWalk n t (walked_poly n A) (walked_poly n B) → value n x (last_labels B (start n x) n q) ≡ value n x (last_labels A (start n x) n q)
+    bit : (x : Bits) (q : ℕ) → (q < n) ⊎ (n ≤ q) → SameWalk n t (walked_poly n A) (walked_poly n B) → label_value n x (last_labels B (start n x) n q) ≡ label_value n x (last_labels A (start n x) n q)
     bit x q (inl h) W =
         let a = agrees_all n A (first_poly n) (start n x) fa (agrees_first n x) in
         let b = agrees_all n B (first_poly n) (start n x) fb (agrees_first n x) in
         λ i. xor (odd_over n x ((sym (b.rows q h) ∙ ap (λ z. get_or z q 0) W.map ∙ a.rows q h) i)) ((sym (b.bits q h) ∙ ap (λ z. has z q) W.flips ∙ a.bits q h) i)
-    bit x q (inr h) W = ap (value n x) (elsewhere n q B (start n x) h fb ∙ sym (elsewhere n q A (start n x) h fa))
+    bit x q (inr h) W = ap (label_value n x) (elsewhere n q B (start n x) h fb ∙ sym (elsewhere n q A (start n x) h fa))
 
 -- ---- the same with the odd path parities
 dihedral_flat : (n : ℕ) (gs : List Gate) → AreDihedral n gs → Flat n (events (ops gs))

@@ -1,6 +1,6 @@
 -- Working form. Gates whose wires go by numbers, and by their names.
 --   named ns g, named_all ns gs   wire i is called what place i of the names says
---   IsMarked set g, AreMarked set gs   each wire of a gate is in the set; of a list
+--   HasWiresIn set g, HaveWiresIn set gs  each wire of a gate is in the set; of a list
 --   Knows ns g, AreKnown ns gs   each wire of a gate is among the names; of a list
 use Rattle.std.specs.Prelude.{◌≡◌, ℕ, List, [], ◌∷◌, Contains, slice_index}
 use Rattle.std.specs.Int.{bit_at}
@@ -17,15 +17,15 @@ abbrev pub named_all : List ℕ → List Gate → List Gate
 named_all ns [] = []
 named_all ns (g ∷ gs) = named ns g ∷ named_all ns gs
 
-abbrev pub IsMarked : ℕ → Gate → Type 0
-IsMarked set (H q) = bit_at set q ≡ 1
-IsMarked set (X q) = bit_at set q ≡ 1
-IsMarked set (P k q) = bit_at set q ≡ 1
-IsMarked set (Cx c t) = (bit_at set c ≡ 1) × (bit_at set t ≡ 1)
+abbrev pub HasWiresIn : ℕ → Gate → Type 0
+HasWiresIn set (H q) = bit_at set q ≡ 1
+HasWiresIn set (X q) = bit_at set q ≡ 1
+HasWiresIn set (P k q) = bit_at set q ≡ 1
+HasWiresIn set (Cx c t) = (bit_at set c ≡ 1) × (bit_at set t ≡ 1)
 
-abbrev pub AreMarked : ℕ → List Gate → Type 0
-AreMarked set [] = Unit {0}
-AreMarked set (g ∷ gs) = IsMarked set g × AreMarked set gs
+abbrev pub HaveWiresIn : ℕ → List Gate → Type 0
+HaveWiresIn set [] = Unit {0}
+HaveWiresIn set (g ∷ gs) = HasWiresIn set g × HaveWiresIn set gs
 
 abbrev pub Knows : List ℕ → Gate → Type 0
 Knows ns (H q) = Contains ns q

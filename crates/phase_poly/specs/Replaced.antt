@@ -1,5 +1,5 @@
 -- What the resynthesis of a circuit may do.
---   IsTaken n A B t           the gates A of a layer are kept as B, or are replaced by a resynthesis B with fewer CNOTs
+--   IsLayerTaken n A B t      the gates A of a layer are kept as B, or are replaced by a resynthesis B with fewer CNOTs
 --   IsReplaced n ls ms t      each layer was taken so: ms are the layers at the end
 --   AreFine n gs              the gates may stand on n wires
 --   DihedralLayers n ls       the gates of each layer are dihedral
@@ -15,15 +15,15 @@ use Rattle.circuit_list.specs.Gates.{ops, IsFine}
 use Rattle.matroid_partition.specs.Partitions.{IsPartition}
 use Rattle.circuit_layers.specs.Layers.{LayerBody, layers_of, linked}
 use Rattle.phase_poly.specs.Polys.{AreDihedral, poly_of}
-use Rattle.phase_poly.specs.Resynthesis.{cx_bound, rows_of, IsResynthesis}
+use Rattle.phase_poly.specs.Resynthesis.{cx_bound, rows_of_terms, IsResynthesis}
 
-abbrev pub IsTaken : ℕ → List Gate → List Gate → ℕ → Type 0
-IsTaken n A B t = ((B ≡ A) × (t ≡ 0)) ⊎ (IsResynthesis n A B t × (cx_count (ops B) < cx_count (ops A)))
+abbrev pub IsLayerTaken : ℕ → List Gate → List Gate → ℕ → Type 0
+IsLayerTaken n A B t = ((B ≡ A) × (t ≡ 0)) ⊎ (IsResynthesis n A B t × (cx_count (ops B) < cx_count (ops A)))
 
 abbrev pub IsReplaced : ℕ → List LayerBody → List LayerBody → ℕ → Type 0
 IsReplaced n [] [] t = t ≡ 0
 IsReplaced n (l ∷ ls) (m ∷ ms) t =
-    (m.hadamards ≡ l.hadamards) × ((j : ℕ) × ((k : ℕ) × (IsTaken n l.gates m.gates j × (IsReplaced n ls ms k × (t ≡ (j + k) % 8)))))
+    (m.hadamards ≡ l.hadamards) × ((j : ℕ) × ((k : ℕ) × (IsLayerTaken n l.gates m.gates j × (IsReplaced n ls ms k × (t ≡ (j + k) % 8)))))
 IsReplaced n _ _ t = ⊥
 
 abbrev pub lesser : ℕ → List LayerBody → List ℕ → ℕ
@@ -39,7 +39,7 @@ DihedralLayers n [] = Unit {0}
 DihedralLayers n (l ∷ ls) = AreDihedral n l.gates × DihedralLayers n ls
 
 abbrev pub HasBlocks : ℕ → List Gate → ℕ → Type 0
-HasBlocks n gs b = (blocks : List (List ℕ)) × (IsPartition (rows_of (poly_of n gs).terms) blocks × (b ≡ length blocks))
+HasBlocks n gs b = (blocks : List (List ℕ)) × (IsPartition (rows_of_terms (poly_of n gs).terms) blocks × (b ≡ length blocks))
 
 abbrev pub AreBlocks : ℕ → List LayerBody → List ℕ → Type 0
 AreBlocks n [] [] = Unit {0}

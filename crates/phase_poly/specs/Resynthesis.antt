@@ -1,9 +1,9 @@
 -- A list that is built for a polynomial: CNOTs and phases in turn, at the end CNOTs and X.
---   cnots pairs           the CNOTs from control to target
+--   cnot_gates pairs      the CNOTs from control to target
 --   odd_terms ts          how many coefficients are odd
 --   at_places ts ps, picked ts blocks   the terms at places; those of the blocks, block by block
 --   AllBelow, BlocksBelow   places below n; in each block
---   rows_of ts, term_rows ts ps   the rows of the terms; of those at places
+--   rows_of_terms ts, term_rows ts ps  the rows of the terms; of those at places
 --   flip_gates n f        X on the wires below n that are in the row f, ascending
 --   resynth_turn n f c    the turn of a resynthesis: twice the number of X less the constant
 --   IsBuilt n gs held done    a list of CNOT and P that brings the wires to the matrix `held` and has these terms
@@ -17,9 +17,9 @@ use Rattle.circuit_list.specs.Gates.{ops}
 use Rattle.phase_poly.specs.Rows.{has}
 use Rattle.phase_poly.specs.Polys.{AreDihedral, Term, coefficient, walked_poly, SamePoly}
 
-abbrev pub cnots : List (ℕ × ℕ) → List Gate
-cnots [] = []
-cnots (e ∷ pairs) = Cx e.0 e.1 ∷ cnots pairs
+abbrev pub cnot_gates : List (ℕ × ℕ) → List Gate
+cnot_gates [] = []
+cnot_gates (e ∷ pairs) = Cx e.0 e.1 ∷ cnot_gates pairs
 
 abbrev pub odd_terms : List Term → ℕ
 odd_terms [] = 0
@@ -69,6 +69,6 @@ abbrev pub term_rows : List Term → List ℕ → List ℕ
 term_rows ts [] = []
 term_rows ts (p ∷ ps) = (slice_index_or ts p (0, 0)).0 ∷ term_rows ts ps
 
-abbrev pub rows_of : List Term → List ℕ
-rows_of [] = []
-rows_of (e ∷ ts) = e.0 ∷ rows_of ts
+abbrev pub rows_of_terms : List Term → List ℕ
+rows_of_terms [] = []
+rows_of_terms (e ∷ ts) = e.0 ∷ rows_of_terms ts

@@ -5,7 +5,7 @@ ghost use Rattle.gf2_linear.specs.Rows.{is_independent};
 ghost use Rattle.circuit_list.specs.Gates.{ops};
 ghost use Rattle.unitary_model.specs.Operations.{cx_count};
 ghost use Rattle.phase_poly.specs.Polys.{Term};
-ghost use Rattle.phase_poly.specs.Resynthesis.{at_places, cnots, picked, term_rows, IsBuilt};
+ghost use Rattle.phase_poly.specs.Resynthesis.{at_places, cnot_gates, picked, term_rows, IsBuilt};
 
 use circuit_list::Gate;
 use cnot_synth::synth_between;
@@ -42,7 +42,7 @@ pub(crate) fn bring(
 
 /// Puts CNOTs (control, target) behind the gates.
 fn push_cnots(gates: &mut Vec<Gate>, pairs: &[(u32, u32)]) -> Result<(), AllocError>
-    ensures ok { OnOk result (gates.new.items ≡ gates.old.items ++ cnots pairs.now) }
+    ensures ok { OnOk result (gates.new.items ≡ gates.old.items ++ cnot_gates pairs.now) }
 {
     'pairs: for pair in pairs {
         gates.push(Gate::Cx {

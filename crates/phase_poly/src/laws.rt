@@ -9,12 +9,12 @@ ghost use Rattle.unitary_model.specs.Ring.{nought, unit, turn, double};
 ghost use Rattle.unitary_model.specs.Operations.{weight, t_count, cx_count};
 ghost use Rattle.unitary_model.specs.OddPaths.{odd_paths};
 ghost use Rattle.gf2_linear.specs.Rows.{is_independent};
-ghost use Rattle.matroid_partition.specs.Partitions.{times, IsPartition};
+ghost use Rattle.matroid_partition.specs.Partitions.{occurrences, IsPartition};
 ghost use Rattle.circuit_layers.specs.Layers.{LayerBody, layers_of, linked};
 ghost use Rattle.phase_poly.specs.Polys.{AreDihedral, SamePoly, Term, poly_of};
-ghost use Rattle.gf2_linear.specs.Matrices.{identity_rows, run};
-ghost use Rattle.phase_poly.specs.Meaning.{exponent_of, image, values};
-ghost use Rattle.phase_poly.specs.Resynthesis.{BlocksBelow, IsBuilt, cnots, IsResynthesis, flip_gates, picked, resynth_turn};
+ghost use Rattle.gf2_linear.specs.Matrices.{identity_rows, added_all};
+ghost use Rattle.phase_poly.specs.Meaning.{exponent_of, image, row_parities};
+ghost use Rattle.phase_poly.specs.Resynthesis.{BlocksBelow, IsBuilt, cnot_gates, IsResynthesis, flip_gates, picked, resynth_turn};
 ghost use Rattle.phase_poly.specs.Replaced.{AreBlocks, AreFew, AreFine, IsReplaced, lesser};
 
 /// A circuit that is written anew layer by layer, the H of each behind its other gates, has the same gates in another order,
@@ -62,7 +62,7 @@ pub fn same_polynomial()
 /// flipped wires, is a resynthesis of the other.
 pub fn built_list()
     ensures resynthesis { (n : ℕ) (A gs : List Gate) (blocks : List (List ℕ)) → AreDihedral n A →
-        BlocksBelow (length (poly_of n A).terms) blocks → ((i : ℕ) → i < length (poly_of n A).terms → times i blocks ≡ 1) →
+        BlocksBelow (length (poly_of n A).terms) blocks → ((i : ℕ) → i < length (poly_of n A).terms → occurrences i blocks ≡ 1) →
         IsBuilt n gs (poly_of n A).map (picked (poly_of n A).terms blocks) →
         IsResynthesis n A (gs ++ flip_gates n (poly_of n A).flips) (resynth_turn n (poly_of n A).flips (poly_of n A).constant) }
     ensures cx_gates { (n f : ℕ) (gs : List Gate) → cx_count (ops (gs ++ flip_gates n f)) ≡ cx_count (ops gs) }
@@ -96,11 +96,11 @@ pub fn polynomial_entries()
 /// to those of the other.
 pub fn synthesis_entries()
     ensures entry { (matrix : List ℕ) (pairs : List (ℕ × ℕ)) (x : List Bool) → length x ≡ length matrix →
-        run (identity_rows (length matrix)) pairs ≡ matrix → amplitude (ops (cnots pairs)) x (values matrix x) ≡ unit }
+        added_all (identity_rows (length matrix)) pairs ≡ matrix → amplitude (ops (cnot_gates pairs)) x (row_parities matrix x) ≡ unit }
     ensures elsewhere { (matrix : List ℕ) (pairs : List (ℕ × ℕ)) (x y : List Bool) → length x ≡ length matrix →
-        run (identity_rows (length matrix)) pairs ≡ matrix → y ≢ values matrix x → amplitude (ops (cnots pairs)) x y ≡ nought }
+        added_all (identity_rows (length matrix)) pairs ≡ matrix → y ≢ row_parities matrix x → amplitude (ops (cnot_gates pairs)) x y ≡ nought }
     ensures between { (from : List ℕ) (pairs : List (ℕ × ℕ)) (x : List Bool) →
-        amplitude (ops (cnots pairs)) (values from x) (values (run from pairs) x) ≡ unit }
-    ensures between_elsewhere { (from : List ℕ) (pairs : List (ℕ × ℕ)) (x y : List Bool) → y ≢ values (run from pairs) x →
-        amplitude (ops (cnots pairs)) (values from x) y ≡ nought }
+        amplitude (ops (cnot_gates pairs)) (row_parities from x) (row_parities (added_all from pairs) x) ≡ unit }
+    ensures between_elsewhere { (from : List ℕ) (pairs : List (ℕ × ℕ)) (x y : List Bool) → y ≢ row_parities (added_all from pairs) x →
+        amplitude (ops (cnot_gates pairs)) (row_parities from x) y ≡ nought }
 {}

@@ -4,7 +4,7 @@ ghost use Rattle.std.specs.Prelude.{◌≡◌, ℕ, ◌≤◌, ◌<◌, All, Con
 ghost use Rattle.std.specs.Int.{bit_at};
 ghost use Rattle.circuit_list.specs.Gates.{most_wires};
 ghost use Rattle.phase_poly.specs.Polys.{AreDihedral, IsDihedral};
-ghost use Rattle.phase_poly.specs.Named.{named, named_all, AreKnown, AreMarked, IsMarked, Knows};
+ghost use Rattle.phase_poly.specs.Named.{named, named_all, AreKnown, HaveWiresIn, HasWiresIn, Knows};
 
 use circuit_list::Gate;
 use gf2_linear::Row;
@@ -14,7 +14,7 @@ use std::alloc::{AllocError, Global};
 pub(crate) fn wires_of(gates: &[Gate], wires: u32) -> Row
     requires wires_limit { wires ≤ most_wires }
     requires dihedral { AreDihedral wires gates.now }
-    ensures marked { AreMarked result gates.now }
+    ensures marked { HaveWiresIn result gates.now }
 {
     let mut set = Row::empty();
     'marked: for g in gates {
@@ -26,7 +26,7 @@ pub(crate) fn wires_of(gates: &[Gate], wires: u32) -> Row
 /// Puts the wires of a gate into a set.
 fn mark_gate(set: &mut Row, g: Gate)
     requires { IsDihedral 256 g }
-    ensures marked { IsMarked set.new g }
+    ensures marked { HasWiresIn set.new g }
     ensures kept { (w : ℕ) → bit_at set.old w ≡ 1 → bit_at set.new w ≡ 1 }
 {
     match g {

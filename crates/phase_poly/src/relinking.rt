@@ -3,10 +3,10 @@
 ghost use Rattle.std.specs.Prelude.{◌≡◌, ℕ, ◌≤◌, ◌<◌, ◌++◌, ◌∷◌, [], IfOk, OnOk, min};
 ghost use Rattle.circuit_list.specs.Gates.{most_wires, ops};
 ghost use Rattle.unitary_model.specs.Operations.{cx_count};
-ghost use Rattle.circuit_layers.specs.Layers.{hadamards};
+ghost use Rattle.circuit_layers.specs.Layers.{hadamards_on};
 ghost use Rattle.phase_poly.specs.Polys.{AreDihedral};
 ghost use Rattle.phase_poly.specs.Resynthesis.{cx_bound};
-ghost use Rattle.phase_poly.specs.Replaced.{HasBlocks, IsRelinked, IsTaken, DihedralLayers};
+ghost use Rattle.phase_poly.specs.Replaced.{HasBlocks, IsRelinked, IsLayerTaken, DihedralLayers};
 
 use crate::building::Resynth;
 use crate::resynthesis::resynth;
@@ -38,7 +38,7 @@ fn taken(alloc: Global, wires: u32, gates: &[Gate]) -> Result<Resynth, AllocErro
     requires wires_limit { wires ≤ most_wires }
     requires dihedral { AreDihedral wires gates.now }
     ensures below { IfOk result (λ r. r.turn < 8) }
-    ensures taken { IfOk result (λ r. IsTaken wires gates.now r.list.items r.turn) }
+    ensures taken { IfOk result (λ r. IsLayerTaken wires gates.now r.list.items r.turn) }
     ensures cx_bound { IfOk result (λ r. (b : ℕ) → HasBlocks wires gates.now b →
         cx_count (ops r.list.items) ≤ min (cx_count (ops gates.now)) (cx_bound wires b)) }
 {
@@ -93,7 +93,7 @@ fn push_all(list: &mut Vec<Gate>, gates: &[Gate]) -> Result<(), AllocError>
 }
 
 fn push_hadamards(list: &mut Vec<Gate>, wires: &[u32]) -> Result<(), AllocError>
-    ensures ok { OnOk result (list.new.items ≡ list.old.items ++ hadamards wires.now) }
+    ensures ok { OnOk result (list.new.items ≡ list.old.items ++ hadamards_on wires.now) }
 {
     'pushed: for q in wires {
         list.push(Gate::H { q: *q })?;

@@ -5,7 +5,7 @@ ghost use Rattle.circuit_list.specs.Gates.{most_wires, ops};
 ghost use Rattle.unitary_model.specs.Operations.{cx_count};
 ghost use Rattle.phase_poly.specs.Polys.{AreDihedral, poly_of};
 ghost use Rattle.matroid_partition.specs.Partitions.{IsPartition};
-ghost use Rattle.phase_poly.specs.Resynthesis.{cx_bound, flip_gates, rows_of, IsResynthesis};
+ghost use Rattle.phase_poly.specs.Resynthesis.{cx_bound, flip_gates, rows_of_terms, IsResynthesis};
 
 use crate::building::{Resynth, bring, put_blocks};
 use crate::naming::{numbered, renamed, wires_of};
@@ -25,7 +25,7 @@ pub fn resynth(alloc: Global, wires: u32, list: &[Gate]) -> Result<Resynth, Allo
     requires dihedral { AreDihedral wires list.now }
     ensures below { IfOk result (λ r. r.turn < 8) }
     ensures resynthesis { IfOk result (λ r. IsResynthesis wires list.now r.list.items r.turn) }
-    ensures cx_bound { IfOk result (λ r. (blocks : List (List ℕ)) → IsPartition (rows_of (poly_of wires list.now).terms) blocks →
+    ensures cx_bound { IfOk result (λ r. (blocks : List (List ℕ)) → IsPartition (rows_of_terms (poly_of wires list.now).terms) blocks →
         cx_count (ops r.list.items) ≤ cx_bound wires (length blocks)) }
 {
     let names = places_in(alloc, &wires_of(list, wires), wires)?;
@@ -44,7 +44,7 @@ fn rebuilt(alloc: Global, wires: u32, list: &[Gate]) -> Result<Resynth, AllocErr
     requires dihedral { AreDihedral wires list.now }
     ensures below { IfOk result (λ r. r.turn < 8) }
     ensures resynthesis { IfOk result (λ r. IsResynthesis wires list.now r.list.items r.turn) }
-    ensures cx_bound { IfOk result (λ r. (blocks : List (List ℕ)) → IsPartition (rows_of (poly_of wires list.now).terms) blocks →
+    ensures cx_bound { IfOk result (λ r. (blocks : List (List ℕ)) → IsPartition (rows_of_terms (poly_of wires list.now).terms) blocks →
         cx_count (ops r.list.items) ≤ cx_bound wires (length blocks)) }
 {
     let sum = poly(alloc, wires, list)?;
@@ -64,7 +64,7 @@ fn rebuilt(alloc: Global, wires: u32, list: &[Gate]) -> Result<Resynth, AllocErr
 
 /// The rows of the terms.
 fn rows(alloc: Global, terms: &[(Row, u8)]) -> Result<Vec<Row>, AllocError>
-    ensures { IfOk result (λ v. v.items ≡ rows_of terms.now) }
+    ensures { IfOk result (λ v. v.items ≡ rows_of_terms terms.now) }
 {
     let mut rows = Vec::new(alloc);
     'terms: for term in terms {

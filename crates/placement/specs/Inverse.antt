@@ -1,7 +1,7 @@
 -- Working form. A list with its inverse.
 --   AreInverse p q    each of the two lists says where the numbers stand in the other
 --   IsUndone p q i    q says that the number at index i of p stands there
---   Writes p q n      where p is a placement, q says so of the first n numbers of p
+--   InvertsFirst p q n  where p is a placement, q says so of the first n numbers of p
 use Rattle.std.specs.Prelude.{◌≡◌, ℕ, ◌<◌, ◌^◌, List, length, slice_index}
 use Rattle.unitary_model.specs.Placement.{IsPlacement}
 
@@ -18,5 +18,5 @@ pub record IsUndone (p q : List ℕ) (i : ℕ) : Type 0 where
   pub within : slice_index p i < length q
   pub back : slice_index q (slice_index p i) ≡ i
 
-abbrev pub Writes : List ℕ → List ℕ → ℕ → Type 0
-Writes p q n = IsPlacement (length p) p → (i : ℕ) → i < n → slice_index q (slice_index p i) ≡ i
+abbrev pub InvertsFirst : List ℕ → List ℕ → ℕ → Type 0
+InvertsFirst p q n = IsPlacement (length p) p → (i : ℕ) → i < n → slice_index q (slice_index p i) ≡ i

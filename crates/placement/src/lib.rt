@@ -9,7 +9,7 @@
 #![tactic(auto)]
 
 ghost use Rattle.std.specs.Prelude.{◌≡◌, ℕ, ◌^◌, ◌<◌, false, true, IfNone, IfOk, IfSome, length, map, set, slice_index};
-ghost use Rattle.placement.specs.Inverse.{AreInverse, IsUndone, Writes};
+ghost use Rattle.placement.specs.Inverse.{AreInverse, IsUndone, InvertsFirst};
 ghost use Rattle.unitary_model.specs.Placement.{exchanged, identity, position_of, IsPlacement};
 
 use std::alloc::{AllocError, Global};
@@ -67,7 +67,7 @@ fn are_inverse(list: &[u32], other: &[u32]) -> bool
     requires long { length other.now ≡ length list.now }
     requires fits { length list.now < 2 ^ 32 }
     ensures yes { result ≡ true → AreInverse list.now other.now }
-    ensures no { result ≡ false → Writes list.now other.now (length list.now) → IsPlacement (length list.now) list.now → ⊥ }
+    ensures no { result ≡ false → InvertsFirst list.now other.now (length list.now) → IsPlacement (length list.now) list.now → ⊥ }
 {
     undoes(list, other) && undoes(other, list)
 }
@@ -86,7 +86,7 @@ fn write(list: &mut Vec<u32>, index: usize, number: u32)
 fn inverse(alloc: Global, list: &[u32]) -> Result<Vec<u32>, AllocError>
     requires { length list.now < 2 ^ 32 }
     ensures long { IfOk result (λ v. length v.items ≡ length list.now) }
-    ensures undone { IfOk result (λ v. Writes list.now v.items (length list.now)) }
+    ensures undone { IfOk result (λ v. InvertsFirst list.now v.items (length list.now)) }
 {
     let mut places = vec![in alloc; 0; list.len()]?;
     'places: for place in 0..list.len() {

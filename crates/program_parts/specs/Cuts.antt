@@ -3,6 +3,7 @@
 --   IsCut c              one barrier fewer than parts
 --   whole parts          the parts one after the other
 --   uncut xs             one part
+--   before_first_part x parts   x before the first of the parts
 --   cut_by o x c         the cut c with x before it: a part ends there where x is a barrier
 --   cut_at bar xs        the parts between the barriers of xs, and the barriers
 --   chopped ns xs        xs in parts of these lengths
@@ -23,12 +24,12 @@ abbrev pub uncut : {A : Type 0} → List A → Cut A
 uncut xs = record { parts = xs ∷ []; bars = [] }
 
 -- x before the first part
-abbrev pub before : {A : Type 0} → A → List (List A) → List (List A)
-before x [] = (x ∷ []) ∷ []
-before x (xs ∷ parts) = (x ∷ xs) ∷ parts
+abbrev pub before_first_part : {A : Type 0} → A → List (List A) → List (List A)
+before_first_part x [] = (x ∷ []) ∷ []
+before_first_part x (xs ∷ parts) = (x ∷ xs) ∷ parts
 
 abbrev pub cut_by : {A : Type 0} → Option (List ℕ) → A → Cut A → Cut A
-cut_by None x c = record { parts = before x c.parts; bars = c.bars }
+cut_by None x c = record { parts = before_first_part x c.parts; bars = c.bars }
 cut_by (Some ws) x c = record { parts = [] ∷ c.parts; bars = ws ∷ c.bars }
 
 abbrev pub cut_at : {A : Type 0} → (A → Option (List ℕ)) → List A → Cut A

@@ -7,10 +7,10 @@ use Rattle.gate_expand.specs.Expansion.{IsFineOp}
 use Rattle.gate_expand.specs.declared.source.Ops.{Ops}
 use Rattle.gate_inline.specs.Registers.{AreRegisters, IsRead}
 use Rattle.gate_inline.specs.Sizes.{most_operations}
-use Rattle.gate_inline.specs.Splits.{IsBar, cut_of}
+use Rattle.gate_inline.specs.Splits.{IsBarrier, cut_of}
 use Rattle.gate_inline.specs.declared.split.Split.{Split}
 use Rattle.program_parts.specs.Cuts.{IsCut, whole}
-use Rattle.program_reader.specs.Sources.{IsHeld, held, lists_of}
+use Rattle.program_reader.specs.Sources.{IsHeldProgram, held, lists_of}
 use Rattle.qasm_check.specs.declared.register.ClassicalRegister.{ClassicalRegister}
 use Rattle.unitary_model.specs.Limits.{most_qubits}
 use Rattle.unitary_model.specs.declared.Op.{Op}
@@ -21,8 +21,8 @@ All-whole P (xs ∷ parts) h = All-append P xs (whole parts) (All-head (All P) x
 
 pub IsHeld-split : (s : Split) (parts : List Ops) (reads : List (Option ℕ)) (rs : List ClassicalRegister) (n : ℕ) → lists_of parts ≡ (cut_of s).parts
     → All (λ o. o.wires ≡ s.wires) parts → reads ≡ s.reads.items → s.wires ≤ most_qubits → length (whole (cut_of s).parts) ≤ most_operations
-    → IsCut (cut_of s) → All (All (IsFineOp s.wires)) (cut_of s).parts → All (IsBar s.wires) (cut_of s).bars
-    → AreRegisters rs (length s.reads.items) → All (IsRead s.wires) s.reads.items → IsHeld s.wires parts (held s.wires parts (cut_of s).bars reads rs n)
+    → IsCut (cut_of s) → All (All (IsFineOp s.wires)) (cut_of s).parts → All (IsBarrier s.wires) (cut_of s).bars
+    → AreRegisters rs (length s.reads.items) → All (IsRead s.wires) s.reads.items → IsHeldProgram s.wires parts (held s.wires parts (cut_of s).bars reads rs n)
 IsHeld-split s parts reads rs n lists on same wires few cut fine bars registers read = record {
   program = record {
     wires_limit = wires;

@@ -6,20 +6,20 @@
 use Rattle.std.proofs.Common.{◌≡◌, ℕ, ◌<◌, List, length, ◌⊎◌, inl, inr, refl, sym, ◌∙◌, arith}
 use Rattle.std.proofs.lemmas.Bool.{cases_lt}
 use Rattle.gate_inline.specs.Programs.{IsAccepted, Program, most_text_bytes}
-use Rattle.program_reader.specs.Refusals.{IsProgramFault, IsRefusal, IsWithin}
+use Rattle.program_reader.specs.Refusals.{IsProgramFault, IsRefusal, IsWithinTextLimit}
 use Rattle.program_reader.specs.Texts.{IsAcceptedText, IsTextFault, IsTextRefusal}
 use Rattle.program_reader.specs.declared.refusal.ProgramRefusal.{ProgramRefusal}
 use Rattle.program_reader.specs.declared.refusal.ProgramRefusal.TheVariants.{TooLong, BadByte, Number, Syntax, Version, Depth, Check, Inline}
 use Rattle.program_reader.specs.declared.refusal.ProgramFault.{ProgramFault}
 use Rattle.program_reader.specs.declared.refusal.ProgramFault.TheVariants.{Refused, NoMemory}
 
-pub IsAccepted-within : (text : List ℕ) (p : Program) → IsWithin text → IsAcceptedText text p → IsAccepted text p
+pub IsAccepted-within : (text : List ℕ) (p : Program) → IsWithinTextLimit text → IsAcceptedText text p → IsAccepted text p
 IsAccepted-within text p short a = record { short = short; tree = a.tree; source = a.source; few = a.few; means = a.means }
 
 text_of : (text : List ℕ) (p : Program) → IsAccepted text p → IsAcceptedText text p
 text_of text p a = record { tree = a.tree; source = a.source; few = a.few; means = a.means }
 
-IsRefusal-within : (text : List ℕ) (r : ProgramRefusal) → IsWithin text → IsTextRefusal text r → IsRefusal text r
+IsRefusal-within : (text : List ℕ) (r : ProgramRefusal) → IsWithinTextLimit text → IsTextRefusal text r → IsRefusal text r
 IsRefusal-within text TooLong short f = absurd f
 IsRefusal-within text (BadByte place) short f = (short, f)
 IsRefusal-within text (Number place) short f = (short, f)
@@ -29,14 +29,14 @@ IsRefusal-within text (Depth place) short f = (short, f)
 IsRefusal-within text (Check r) short f = (short, f)
 IsRefusal-within text (Inline r) short f = (short, f)
 
-pub IsProgramFault-within : (text : List ℕ) (e : ProgramFault) → IsWithin text → IsTextFault text e → IsProgramFault text e
+pub IsProgramFault-within : (text : List ℕ) (e : ProgramFault) → IsWithinTextLimit text → IsTextFault text e → IsProgramFault text e
 IsProgramFault-within text (Refused r) short f = IsRefusal-within text r short f
 IsProgramFault-within text NoMemory short f = tt
 
 abbrev IsLong : List ℕ → ProgramRefusal → Type 0
 IsLong text r = (most_text_bytes < length text) × (r ≡ TooLong)
 
-limited : (text : List ℕ) (r : ProgramRefusal) → IsRefusal text r → IsLong text r ⊎ (IsWithin text × IsTextRefusal text r)
+limited : (text : List ℕ) (r : ProgramRefusal) → IsRefusal text r → IsLong text r ⊎ (IsWithinTextLimit text × IsTextRefusal text r)
 limited text TooLong f = inl (f, refl)
 limited text (BadByte place) f = inr f
 limited text (Number place) f = inr f
@@ -46,7 +46,7 @@ limited text (Depth place) f = inr f
 limited text (Check r) f = inr f
 limited text (Inline r) f = inr f
 
-long_within : (text : List ℕ) → most_text_bytes < length text → IsWithin text → ⊥
+long_within : (text : List ℕ) → most_text_bytes < length text → IsWithinTextLimit text → ⊥
 long_within text long short = omega (arith, long, short)
 
 pub accepted-no_refusal : ((text : List ℕ) (p : Program) (r : ProgramRefusal) → IsAcceptedText text p → IsTextRefusal text r → ⊥)

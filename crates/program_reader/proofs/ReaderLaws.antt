@@ -17,13 +17,13 @@ use Rattle.qasm_lexer.specs.declared.Token.{Token}
 use Rattle.qasm_lexer.specs.Names.{IsName}
 use Rattle.qasm_parser.specs.DeclaredNames.{HasNames}
 use Rattle.qasm_parser.specs.Parsing.{IsParseFault, IsProgram, Spells, first_deep_of}
-use Rattle.qasm_parser.specs.Spelling.{Seen}
+use Rattle.qasm_parser.specs.Spelling.{SeenExpression}
 use Rattle.qasm_parser.specs.Tree.{Tree}
 use Rattle.qasm_parser.specs.declared.ParseFault.{ParseFault}
 use Rattle.qasm_parser.specs.declared.ParseFault.TheVariants as parsing
 use Rattle.qasm_check.specs.Bound.{Bound, barriers}
 use Rattle.qasm_check.specs.Checking.{IsCheckFault, IsFineTree, bound}
-use Rattle.qasm_check.specs.Steps.{Step}
+use Rattle.qasm_check.specs.Steps.{BoundStep}
 use Rattle.qasm_check.specs.declared.register.ClassicalRegister.{ClassicalRegister}
 use Rattle.qasm_check.specs.declared.refusal.CheckFault.{CheckFault}
 use Rattle.qasm_check.specs.declared.refusal.CheckFault.TheVariants as checking
@@ -37,7 +37,7 @@ use Rattle.gate_inline.specs.declared.refusal.InlineFault.{InlineFault}
 use Rattle.gate_inline.specs.declared.refusal.InlineFault.TheVariants as inlining
 use Rattle.program_parts.specs.Cuts.{Cut, IsCut, uncut, whole}
 use Rattle.program_reader.specs.Refusals.{lex_fault, parse_fault}
-use Rattle.program_reader.specs.Stages.{IsReadAs, IsUnchecked, IsUnwritten}
+use Rattle.program_reader.specs.Stages.{IsBoundReadAs, IsUnchecked, IsUnwritten}
 use Rattle.program_reader.specs.Texts.{IsAcceptedText, IsTextFault, IsTextRefusal, IsUnparsed}
 use Rattle.program_reader.specs.declared.refusal.ProgramRefusal.{ProgramRefusal}
 use Rattle.program_reader.specs.declared.refusal.ProgramRefusal.TheVariants.{TooLong, BadByte, Number, Syntax, Version, Depth, Check, Inline}
@@ -46,7 +46,7 @@ use Rattle.program_reader.specs.declared.refusal.ProgramFault.TheVariants.{Refus
 use Rattle.unitary_model.specs.declared.Op.{Op}
 
 abbrev pub SpeltOnce : Type 0
-SpeltOnce = (text : List ℕ) (tokens : List Token) (a b : Tree) (f g : List Seen) → Spells text tokens a f → Spells text tokens b g
+SpeltOnce = (text : List ℕ) (tokens : List Token) (a b : Tree) (f g : List SeenExpression) → Spells text tokens a f → Spells text tokens b g
     → (a ≡ b) × (first_deep_of f ≡ first_deep_of g)
 
 abbrev pub NoParseFault : Type 0
@@ -80,7 +80,7 @@ tree-once lexes once text a b (xs, lx, (f, sa, va, da)) (ys, ly, (g, sb, vb, db)
 
 -- ---- one program
 abbrev pub CutOnce : Type 0
-CutOnce = (gates : List BoundGate) (steps : List Step) (c d : Cut Op) → IsCutOf gates steps c → IsCutOf gates steps d → c ≡ d
+CutOnce = (gates : List BoundGate) (steps : List BoundStep) (c d : Cut Op) → IsCutOf gates steps c → IsCutOf gates steps d → c ≡ d
 
 same_program : (p q : Program) → p.wires ≡ q.wires → p.ops ≡ q.ops → p.cut ≡ q.cut → p.reads ≡ q.reads → p.registers ≡ q.registers → p.barriers ≡ q.barriers → p ≡ q
 same_program p q w o c r g b = λ i. record { wires = w i; ops = o i; cut = c i; reads = r i; registers = g i; barriers = b i }
@@ -132,10 +132,10 @@ abbrev pub FewTokens : Type 0
 FewTokens = (text : List ℕ) (tokens : List Token) → AreTokens text tokens → length tokens ≤ length text
 
 abbrev pub FewStatements : Type 0
-FewStatements = (text : List ℕ) (tokens : List Token) (t : Tree) (found : List Seen) → Spells text tokens t found → length t.list ≤ length tokens
+FewStatements = (text : List ℕ) (tokens : List Token) (t : Tree) (found : List SeenExpression) → Spells text tokens t found → length t.list ≤ length tokens
 
 abbrev pub DeclaresNames : Type 0
-DeclaresNames = (text : List ℕ) (tokens : List Token) (t : Tree) (found : List Seen) → All (IsTokenOf text) tokens → Spells text tokens t found
+DeclaresNames = (text : List ℕ) (tokens : List Token) (t : Tree) (found : List SeenExpression) → All (IsTokenOf text) tokens → Spells text tokens t found
     → All (HasNames IsName) t.list
 
 pub few_of : FewTokens → FewStatements → (text : List ℕ) (tokens : List Token) (t : Tree) (n : ℕ) → length text < 2147483648
@@ -186,7 +186,7 @@ IsTextFault-written text t b (Refused (Depth place)) is fine same u = absurd u
 IsTextFault-written text t b (Refused (Check r)) is fine same u = absurd u
 
 pub IsAcceptedText-read : (text : List ℕ) (t : Tree) (b : Bound) (keep : Bool) (s : Program) → IsTreeOf text t → IsFineTree t → b ≡ bound t
-    → IsReadAs b keep s → (p : Program) × IsAcceptedText text p × (s ≡ kept keep p)
+    → IsBoundReadAs b keep s → (p : Program) × IsAcceptedText text p × (s ≡ kept keep p)
 IsAcceptedText-read text t b keep s is fine same h = (
   h.1.0,
   record {
@@ -200,14 +200,14 @@ IsAcceptedText-read text t b keep s is fine same h = (
 
 -- ---- as one part, and in parts
 abbrev pub AreCut : Type 0
-AreCut = (gates : List BoundGate) (steps : List Step) (us : List Op) → operations gates steps ≡ Ok us
+AreCut = (gates : List BoundGate) (steps : List BoundStep) (us : List Op) → operations gates steps ≡ Ok us
     → (c : Cut Op) × IsCutOf gates steps c × (whole c.parts ≡ us) × IsCut c
 
 abbrev pub SplitIsInlined : Type 0
 SplitIsInlined = (b : Bound) (s : Split) (o : Ops) → IsSplit b s → o.wires ≡ s.wires → o.list ≡ whole (cut_of s).parts → o.reads ≡ s.reads.items → IsInlined b o
 
 pub whole-means : AreCut → (b : Bound) (o : Ops) (rs : List ClassicalRegister) (n : ℕ) (s : Program) → IsInlined b o → rs ≡ b.registers → n ≡ barriers b
-    → s ≡ (record { wires = o.wires; ops = o.list; cut = uncut o.list; reads = o.reads; registers = rs; barriers = n }) → IsReadAs b false s
+    → s ≡ (record { wires = o.wires; ops = o.list; cut = uncut o.list; reads = o.reads; registers = rs; barriers = n }) → IsBoundReadAs b false s
 whole-means law b o rs n s h registers barriers e =
     let c = law b.gates b.steps o.list h.list in (
       h.small,
@@ -219,7 +219,7 @@ whole-means law b o rs n s h registers barriers e =
     )
 
 pub parts-means : SplitIsInlined → (b : Bound) (x : Split) (rs : List ClassicalRegister) (n : ℕ) (s : Program) → IsSplit b x → rs ≡ b.registers → n ≡ barriers b
-    → s ≡ (record { wires = x.wires; ops = whole (cut_of x).parts; cut = cut_of x; reads = x.reads.items; registers = rs; barriers = n }) → IsReadAs b true s
+    → s ≡ (record { wires = x.wires; ops = whole (cut_of x).parts; cut = cut_of x; reads = x.reads.items; registers = rs; barriers = n }) → IsBoundReadAs b true s
 parts-means law b x rs n s h registers barriers e =
     let o = law b x (record { wires = x.wires; list = whole (cut_of x).parts; reads = x.reads.items }) h refl refl refl in (
       h.small,

@@ -1,5 +1,5 @@
 -- The first refusal of a text.
---   IsWithin text        the text isn't too long
+--   IsWithinTextLimit text  the text isn't too long
 --   IsRefusal text r     r is the text's first refusal: its length; else the first one that a text of any length may have
 --   IsProgramFault text e   what may be told of a text: its first refusal, or want of memory
 --   lex_fault, parse_fault   a fault of the tokens or of the grammar, as it is told
@@ -11,7 +11,7 @@ use Rattle.qasm_lexer.specs.declared.LexFault.TheVariants as lexing
 use Rattle.qasm_parser.specs.declared.ParseFault.{ParseFault}
 use Rattle.qasm_parser.specs.declared.ParseFault.TheVariants as parsing
 use Rattle.qasm_check.specs.Refusals.{code as check_code}
-use Rattle.gate_inline.specs.Inlined.{code as inline_code}
+use Rattle.gate_inline.specs.Inlined.{inline_code}
 use Rattle.gate_inline.specs.Programs.{most_text_bytes}
 use Rattle.program_reader.specs.Texts.{IsTextRefusal}
 use Rattle.program_reader.specs.declared.refusal.ProgramRefusal.{ProgramRefusal}
@@ -20,18 +20,18 @@ use Rattle.program_reader.specs.declared.refusal.ProgramFault.{ProgramFault}
 use Rattle.program_reader.specs.declared.refusal.ProgramFault.TheVariants.{Refused, NoMemory}
 
 -- of a text that isn't too long
-abbrev pub IsWithin : List ℕ → Type 0
-IsWithin text = length text ≤ most_text_bytes
+abbrev pub IsWithinTextLimit : List ℕ → Type 0
+IsWithinTextLimit text = length text ≤ most_text_bytes
 
 abbrev pub IsRefusal : List ℕ → ProgramRefusal → Type 0
 IsRefusal text TooLong = most_text_bytes < length text
-IsRefusal text (BadByte place) = IsWithin text × IsTextRefusal text (BadByte place)
-IsRefusal text (Number place) = IsWithin text × IsTextRefusal text (Number place)
-IsRefusal text (Syntax place) = IsWithin text × IsTextRefusal text (Syntax place)
-IsRefusal text (Version place) = IsWithin text × IsTextRefusal text (Version place)
-IsRefusal text (Depth place) = IsWithin text × IsTextRefusal text (Depth place)
-IsRefusal text (Check r) = IsWithin text × IsTextRefusal text (Check r)
-IsRefusal text (Inline r) = IsWithin text × IsTextRefusal text (Inline r)
+IsRefusal text (BadByte place) = IsWithinTextLimit text × IsTextRefusal text (BadByte place)
+IsRefusal text (Number place) = IsWithinTextLimit text × IsTextRefusal text (Number place)
+IsRefusal text (Syntax place) = IsWithinTextLimit text × IsTextRefusal text (Syntax place)
+IsRefusal text (Version place) = IsWithinTextLimit text × IsTextRefusal text (Version place)
+IsRefusal text (Depth place) = IsWithinTextLimit text × IsTextRefusal text (Depth place)
+IsRefusal text (Check r) = IsWithinTextLimit text × IsTextRefusal text (Check r)
+IsRefusal text (Inline r) = IsWithinTextLimit text × IsTextRefusal text (Inline r)
 
 abbrev pub IsProgramFault : List ℕ → ProgramFault → Type 0
 IsProgramFault text (Refused r) = IsRefusal text r

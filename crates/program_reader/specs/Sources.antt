@@ -2,14 +2,14 @@
 --   IsSourceProgram p    it is within the limits, its parts are all its operations, its operations, barriers and reads are on its
 --                        wires, and its registers are such as a program may declare
 --   lists_of parts       the operations of each part
---   held .. , IsHeld ..  the program that parts are, with all else; and that it is one, and each part is on its wires
+--   held .. , IsHeldProgram ..  the program that parts are, with all else; and that it is one, and each part is on its wires
 use Rattle.std.specs.Prelude.{◌≡◌, ℕ, ◌≤◌, List, All, Option, length, map}
 use Rattle.gate_expand.specs.Expansion.{IsFineOp}
 use Rattle.gate_expand.specs.declared.source.Ops.{Ops}
 use Rattle.gate_inline.specs.Programs.{Program}
 use Rattle.gate_inline.specs.Registers.{AreRegisters, IsRead}
 use Rattle.gate_inline.specs.Sizes.{most_operations}
-use Rattle.gate_inline.specs.Splits.{IsBar}
+use Rattle.gate_inline.specs.Splits.{IsBarrier}
 use Rattle.program_parts.specs.Cuts.{IsCut, whole}
 use Rattle.qasm_check.specs.declared.register.ClassicalRegister.{ClassicalRegister}
 use Rattle.unitary_model.specs.Limits.{most_qubits}
@@ -21,7 +21,7 @@ pub record IsSourceProgram (p : Program) : Type 0 where
   pub cut : IsCut p.cut
   pub parts : whole p.cut.parts ≡ p.ops
   pub fine : All (IsFineOp p.wires) p.ops
-  pub bars : All (IsBar p.wires) p.cut.bars
+  pub bars : All (IsBarrier p.wires) p.cut.bars
   pub registers : AreRegisters p.registers (length p.reads)
   pub reads : All (IsRead p.wires) p.reads
 
@@ -38,6 +38,6 @@ held wires parts bars reads registers barriers = record {
   barriers = barriers;
 }
 
-pub record IsHeld (wires : ℕ) (parts : List Ops) (p : Program) : Type 0 where
+pub record IsHeldProgram (wires : ℕ) (parts : List Ops) (p : Program) : Type 0 where
   pub program : IsSourceProgram p
   pub on : All (λ o. o.wires ≡ wires) parts

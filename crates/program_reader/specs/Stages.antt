@@ -1,6 +1,6 @@
 -- Working form. What each stage may tell of its own input.
 --   IsUnchecked t e      of a tree: its refusal by the checks, or want of memory
---   IsReadAs b keep s    of a program with its names bound: it is within the limits, and s is what it means, as one part unless
+--   IsBoundReadAs b keep s  of a program with its names bound: it is within the limits, and s is what it means, as one part unless
 --                        barriers are kept
 --   IsUnwritten b e      of a program with its names bound: its refusal where gates are written out, or want of memory
 use Rattle.std.specs.Prelude.{◌≡◌, Bool}
@@ -18,8 +18,8 @@ IsUnchecked t NoMemory = Unit {0}
 IsUnchecked t (Refused (Check r)) = IsCheckRefused t r
 IsUnchecked t (Refused _) = ⊥
 
-abbrev pub IsReadAs : Bound → Bool → Program → Type 0
-IsReadAs b keep s = IsWithinLimits b × ((p : Program) × Means b p × (s ≡ kept keep p))
+abbrev pub IsBoundReadAs : Bound → Bool → Program → Type 0
+IsBoundReadAs b keep s = IsWithinLimits b × ((p : Program) × Means b p × (s ≡ kept keep p))
 
 abbrev pub IsUnwritten : Bound → ProgramFault → Type 0
 IsUnwritten b NoMemory = Unit {0}

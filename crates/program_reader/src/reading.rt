@@ -4,14 +4,14 @@ ghost use Rattle.std.specs.Prelude.{◌≡◌, ◌<◌, All, IfOk, IfErr, false,
 ghost use Rattle.gate_inline.specs.Inlined.{IsInlineFault};
 ghost use Rattle.gate_inline.specs.Programs.{IsAccepted, IsTreeOf, Program as Meant, kept};
 ghost use Rattle.program_reader.specs.Refusals.{IsProgramFault};
-ghost use Rattle.program_reader.specs.Stages.{IsReadAs, IsUnchecked, IsUnwritten};
+ghost use Rattle.program_reader.specs.Stages.{IsBoundReadAs, IsUnchecked, IsUnwritten};
 ghost use Rattle.program_reader.specs.Texts.{IsAcceptedText, IsTextFault};
 ghost use Rattle.qasm_check.specs.Bound.{Bound};
 ghost use Rattle.qasm_check.specs.Checking.{IsFineTree, bound};
-ghost use Rattle.qasm_check.specs.CheckedView.{program as bound_program};
+ghost use Rattle.qasm_check.specs.CheckedView.{program_view as bound_program};
 ghost use Rattle.qasm_lexer.specs.Names.{IsName};
 ghost use Rattle.qasm_parser.specs.DeclaredNames.{HasNames};
-ghost use Rattle.qasm_parser.specs.Tree.{program as tree_of};
+ghost use Rattle.qasm_parser.specs.Tree.{program_tree as tree_of};
 
 use crate::refusal::{ProgramFault, ProgramRefusal};
 use crate::source::SourceProgram;
@@ -69,7 +69,7 @@ fn inline_fault(fault: InlineFault) -> ProgramFault
 /// The operations, reads and registers of a program with its names bound, as one part.
 fn write_whole(alloc: Global, checked: Checked) -> Result<SourceProgram, ProgramFault>
     requires { All (λ r. IsName r.name) (bound_program checked).registers }
-    ensures ok { IfOk result (IsReadAs (bound_program checked) false) }
+    ensures ok { IfOk result (IsBoundReadAs (bound_program checked) false) }
     ensures err { IfErr result (IsUnwritten (bound_program checked)) }
 {
     operations_are_cut();
@@ -84,7 +84,7 @@ fn write_whole(alloc: Global, checked: Checked) -> Result<SourceProgram, Program
 /// The same in parts.
 fn write_parts(alloc: Global, checked: Checked) -> Result<SourceProgram, ProgramFault>
     requires { All (λ r. IsName r.name) (bound_program checked).registers }
-    ensures ok { IfOk result (IsReadAs (bound_program checked) true) }
+    ensures ok { IfOk result (IsBoundReadAs (bound_program checked) true) }
     ensures err { IfErr result (IsUnwritten (bound_program checked)) }
 {
     split_is_inlined();
@@ -99,7 +99,7 @@ fn write_parts(alloc: Global, checked: Checked) -> Result<SourceProgram, Program
 /// The operations, reads and registers of a program with its names bound; in parts where barriers are kept.
 fn write_out(alloc: Global, checked: Checked, keep: bool) -> Result<SourceProgram, ProgramFault>
     requires { All (λ r. IsName r.name) (bound_program checked).registers }
-    ensures ok { IfOk result (IsReadAs (bound_program checked) keep) }
+    ensures ok { IfOk result (IsBoundReadAs (bound_program checked) keep) }
     ensures err { IfErr result (IsUnwritten (bound_program checked)) }
 {
     if keep {

@@ -27,13 +27,13 @@ pub struct SourceProgram {
 impl Model for SourceProgram {
     ghost use Rattle.std.specs.Prelude.{map};
     ghost use Rattle.gate_inline.specs.Programs.{Program};
-    ghost use Rattle.program_reader.specs.Sources.{IsHeld, held};
+    ghost use Rattle.program_reader.specs.Sources.{IsHeldProgram, held};
 
     ghost Value = { Program };
 
     ghost view = { λ s. held s.wires s.parts.items (map (λ v. v.items) s.bars.items) s.reads s.registers.items s.barriers };
 
-    ghost invariant = { λ s. IsHeld s.wires s.parts.items (held s.wires s.parts.items (map (λ v. v.items) s.bars.items) s.reads s.registers.items s.barriers) };
+    ghost invariant = { λ s. IsHeldProgram s.wires s.parts.items (held s.wires s.parts.items (map (λ v. v.items) s.bars.items) s.reads s.registers.items s.barriers) };
 }
 
 /// The parts, each as operations on so many wires, without reads.
@@ -65,7 +65,7 @@ impl SourceProgram {
     ghost use Rattle.gate_expand.specs.Expansion.{IsFineOp};
     ghost use Rattle.gate_inline.specs.Registers.{AreRegisters, IsRead};
     ghost use Rattle.gate_inline.specs.Sizes.{most_operations};
-    ghost use Rattle.gate_inline.specs.Splits.{IsBar, cut_of};
+    ghost use Rattle.gate_inline.specs.Splits.{IsBarrier, cut_of};
     ghost use Rattle.program_parts.specs.Cuts.{IsCut, uncut, whole};
     ghost use Rattle.program_reader.specs.Sources.{lists_of};
     ghost use Rattle.unitary_model.specs.Limits.{most_qubits};
@@ -108,7 +108,7 @@ impl SourceProgram {
         requires operations_limit { length (whole (cut_of split).parts) ≤ most_operations }
         requires cut { IsCut (cut_of split) }
         requires fine { All (All (IsFineOp split.wires)) (cut_of split).parts }
-        requires bars { All (IsBar split.wires) (cut_of split).bars }
+        requires bars { All (IsBarrier split.wires) (cut_of split).bars }
         requires registers { AreRegisters registers.items (length split.reads.items) }
         requires reads { All (IsRead split.wires) split.reads.items }
         ensures ok { IfOk result (λ p. p ≡ record { wires = split.wires; ops = whole (cut_of split).parts; cut = cut_of split; reads = split.reads.items; registers = registers.items; barriers = barriers }) }
@@ -137,7 +137,7 @@ impl SourceProgram {
         ensures cut { IsCut self.now.cut }
         ensures parts { whole self.now.cut.parts ≡ self.now.ops }
         ensures fine { All (IsFineOp self.now.wires) self.now.ops }
-        ensures bars { All (IsBar self.now.wires) self.now.cut.bars }
+        ensures bars { All (IsBarrier self.now.wires) self.now.cut.bars }
         ensures registers { AreRegisters self.now.registers (length self.now.reads) }
         ensures reads { All (IsRead self.now.wires) self.now.reads }
     {

@@ -16,18 +16,18 @@ use Rattle.std.proofs.lemmas.List.{append-nil, append_assoc, length-append, leng
 use Rattle.std.proofs.lemmas.List.Quantifiers.{position-Some}
 use Rattle.qasm_parser.specs.declared.tree.Arg.{Arg}
 use Rattle.qasm_parser.specs.Tree.{Application, apply, measure, reset as resets, barrier, Statement, include, register, gate, opaque, conditional, act}
-use Rattle.qasm_check.specs.Checking.{AllFine, bits_of, bound_of, steps}
+use Rattle.qasm_check.specs.Checking.{AllFine, declared_bits, bound_of, steps}
 use Rattle.gate_library.specs.Gates.{BoundGate, opaque as g-opaque, gate_at}
 use Rattle.gate_library.specs.Library.{library, own_number, table_names, table_index}
-use Rattle.gate_library.specs.Listing.{added, standard}
+use Rattle.gate_library.specs.Listing.{added_gates, standard}
 use Rattle.gate_library.specs.Names.{with}
 use Rattle.gate_library.specs.Operands.{measure_differs, sizes_differ}
 use Rattle.qasm_check.specs.Arguments.{operand, operands}
-use Rattle.qasm_check.specs.Known.{Known, fresh, gate_number, meaning, with_measured}
+use Rattle.qasm_check.specs.Known.{Known, nothing_known, gate_number, meaning, with_measured}
 use Rattle.qasm_check.specs.Meanings.{is_past_end, is_other, operand_in}
-use Rattle.qasm_check.specs.Refusals.{IsFine, is_beyond, is_unknown, is_wrong}
+use Rattle.qasm_check.specs.Refusals.{IsUnrefused, is_beyond, is_unknown, is_wrong}
 use Rattle.qasm_check.specs.Sound.{IsSound, are_gates, fits, is_gate, is_operand, is_step}
-use Rattle.qasm_check.specs.Steps.{Step, applies, measures, bars, nothing, act_step, after, measure_step, bound_gate, formula, step}
+use Rattle.qasm_check.specs.Steps.{BoundStep, applies, measures, barrier_on, nothing, act_step, after, measure_step, bound_gate, formula, statement_step}
 use Rattle.gate_library.specs.declared.operand.Operand.{Operand}
 use Rattle.qasm_check.specs.declared.meaning.Meaning.{Meaning}
 use Rattle.qasm_check.specs.declared.meaning.Meaning.TheVariants.{Gate as Numbered, Register}
@@ -52,7 +52,7 @@ pub record IsSoundKnown (k : Known) : Type 0 where
 
 -- ---- names
 names-length : length table_names ≡ 29
-unfolding table_names standard added
+unfolding table_names standard added_gates
 names-length = refl
 
 table-below : (name : List ℕ) (i : ℕ) → table_index name ≡ Some i → i < 29
@@ -132,7 +132,7 @@ wider : (quantum : Bool) (w b v c n : ℕ) → w ≤ v → b ≤ c → n ≤ kin
 wider true w b v c n le lf e = omega arith
 wider false w b v c n le lf e = omega arith
 
-sound-wires : (k : Known) → IsSoundKnown k → (name : List ℕ) (size : ℕ) → IsFine k (register true name size) → IsSoundKnown (after k (register true name size))
+sound-wires : (k : Known) → IsSoundKnown k → (name : List ℕ) (size : ℕ) → IsUnrefused k (register true name size) → IsSoundKnown (after k (register true name size))
 sound-wires k sound name size fine =
     let many : nat_lt most_qubits (k.wires + size) ≡ false = fine TooManyQubits in
     let few : k.wires + size ≤ most_qubits = grind (arith, nat_tests) in
@@ -149,7 +149,7 @@ sound-wires k sound name size fine =
       few_bits = sound.few_bits;
     }
 
-sound-bits : (k : Known) → IsSoundKnown k → (name : List ℕ) (size : ℕ) → IsFine k (register false name size) → IsSoundKnown (after k (register false name size))
+sound-bits : (k : Known) → IsSoundKnown k → (name : List ℕ) (size : ℕ) → IsUnrefused k (register false name size) → IsSoundKnown (after k (register false name size))
 sound-bits k sound name size fine =
     let many : nat_lt 1024 (k.bits + size) ≡ false = fine TooManyBits in
     let few : k.bits + size ≤ 1024 = grind (arith, nat_tests) in
@@ -194,7 +194,7 @@ sound-measured k (Some p) sound = record {
   few_bits = sound.few_bits;
 }
 
-pub known_sound : (k : Known) → IsSoundKnown k → (s : Statement) → IsFine k s → IsSoundKnown (after k s)
+pub known_sound : (k : Known) → IsSoundKnown k → (s : Statement) → IsUnrefused k s → IsSoundKnown (after k s)
 known_sound k sound (include file) fine = record {
   gates = sound.gates;
   many = sound.many;
@@ -226,7 +226,7 @@ measured-bits : (k : Known) (o : Option Operand) → (with_measured k o).bits �
 measured-bits k None = refl
 measured-bits k (Some p) = refl
 
-apply_sound : (k : Known) → IsSoundKnown k → (a : Application) → IsFine k (act (apply a)) → is_step k.gates k.wires k.bits (act_step k (apply a)) ≡ true
+apply_sound : (k : Known) → IsSoundKnown k → (a : Application) → IsUnrefused k (act (apply a)) → is_step k.gates k.wires k.bits (act_step k (apply a)) ≡ true
 apply_sound k sound a fine =
     let unknown = fine UnknownName in
     let wrong = fine WrongKind in
@@ -241,7 +241,7 @@ apply_sound k sound a fine =
     subst (λ (n : ℕ). is_step k.gates k.wires k.bits (applies n (map (formula []) a.angles) (operands k a.args)) ≡ true) (sym (ap gate_number m))
     (both _ _ (both _ _ (both _ _ (both _ _ (both _ _ lesser fit) uses) at.1) (not_false _ (fine SizeDiffers))) (not_false _ (fine RepeatedQubit)))
 
-measure_sound : (k : Known) → IsSoundKnown k → (qubit bit : Arg) → IsFine k (act (measure qubit bit)) → is_step k.gates k.wires k.bits (act_step k (measure qubit bit)) ≡ true
+measure_sound : (k : Known) → IsSoundKnown k → (qubit bit : Arg) → IsUnrefused k (act (measure qubit bit)) → is_step k.gates k.wires k.bits (act_step k (measure qubit bit)) ≡ true
 measure_sound k sound qubit bit fine =
     let unknown = fine UnknownName in
     let wrong = fine WrongKind in
@@ -254,7 +254,7 @@ measure_sound k sound qubit bit fine =
     ∙ ap (λ (o : Option Operand). is_step k.gates k.wires k.bits (measure_step (Some from.0) o)) into.1
     ∙ both _ _ (both _ _ from.2 into.2) (not_false _ sizes)
 
-pub step_sound : (k : Known) → IsSoundKnown k → (s : Statement) → IsFine k s → is_step (after k s).gates (after k s).wires (after k s).bits (step k s) ≡ true
+pub step_sound : (k : Known) → IsSoundKnown k → (s : Statement) → IsUnrefused k s → is_step (after k s).gates (after k s).wires (after k s).bits (statement_step k s) ≡ true
 step_sound k sound (include file) fine = refl
 step_sound k sound (register true name size) fine = refl
 step_sound k sound (register false name size) fine = refl
@@ -284,7 +284,7 @@ places-grow : (n m : ℕ) (ps : List Operand) → n ≤ m → list_all (is_opera
 places-grow n m [] le e = refl
 places-grow n m (p ∷ ps) le e = both _ _ (place-grow n m p le (first _ _ e)) (places-grow n m ps le (second _ _ e))
 
-step-grow : (gates more : List BoundGate) (w v b c : ℕ) (s : Step) → w ≤ v → b ≤ c → is_step gates w b s ≡ true → is_step (gates ++ more) v c s ≡ true
+step-grow : (gates more : List BoundGate) (w v b c : ℕ) (s : BoundStep) → w ≤ v → b ≤ c → is_step gates w b s ≡ true → is_step (gates ++ more) v c s ≡ true
 step-grow gates more w v b c (applies number angles ps) le lf e =
     let lesser : number < length gates = test_lt _ _ (first _ _ (first _ _ (first _ _ (first _ _ (first _ _ e))))) in
     let longer : length (gates ++ more) ≡ length gates + length more = length-append gates more in
@@ -294,10 +294,10 @@ step-grow gates more w v b c (applies number angles ps) le lf e =
     (places-grow w v ps le (second _ _ (first _ _ (first _ _ e))))) (second _ _ (first _ _ e))) (second _ _ e)
 step-grow gates more w v b c (measures qubit bit) le lf e =
     both _ _ (both _ _ (place-grow w v qubit le (first _ _ (first _ _ e))) (place-grow b c bit lf (second _ _ (first _ _ e)))) (second _ _ e)
-step-grow gates more w v b c (bars ps) le lf e = places-grow w v ps le e
+step-grow gates more w v b c (barrier_on ps) le lf e = places-grow w v ps le e
 step-grow gates more w v b c nothing le lf e = refl
 
-grows-step : (k l : Known) (s : Step) → Grows k l → is_step k.gates k.wires k.bits s ≡ true → is_step l.gates l.wires l.bits s ≡ true
+grows-step : (k l : Known) (s : BoundStep) → Grows k l → is_step k.gates k.wires k.bits s ≡ true → is_step l.gates l.wires l.bits s ≡ true
 grows-step k l s g e = ap (λ (gs : List BoundGate). is_step gs l.wires l.bits s) g.gates ∙ step-grow k.gates g.more k.wires l.wires k.bits l.bits s g.wires g.bits e
 
 grows-none : (k : Known) → Grows k k
@@ -340,11 +340,11 @@ steps_sound : (k : Known) → IsSoundKnown k → (xs : List Statement) → AllFi
     → list_all (is_step (fold after k xs).gates (fold after k xs).wires (fold after k xs).bits) (steps k xs) ≡ true
 steps_sound k sound [] fine = refl
 steps_sound k sound (x ∷ xs) fine =
-    both _ _ (grows-step (after k x) (fold after (after k x) xs) (step k x) (grows-fold (after k x) xs) (step_sound k sound x fine.0))
+    both _ _ (grows-step (after k x) (fold after (after k x) xs) (statement_step k x) (grows-fold (after k x) xs) (step_sound k sound x fine.0))
     (steps_sound (after k x) (known_sound k sound x fine.0) xs fine.1)
 
-fresh_sound : IsSoundKnown fresh
-unfolding library table_names standard added
+fresh_sound : IsSoundKnown nothing_known
+unfolding library table_names standard added_gates
 fresh_sound = record {
   gates = refl;
   many = lit≤ tt;
@@ -354,17 +354,17 @@ fresh_sound = record {
   few_bits = lit≤ tt;
 }
 
-pub accepted_sound : (xs : List Statement) → AllFine fresh xs → IsSound (bound_of xs)
+pub accepted_sound : (xs : List Statement) → AllFine nothing_known xs → IsSound (bound_of xs)
 accepted_sound xs fine =
-    let end = fold_sound fresh fresh_sound xs fine in
-    let all : (fold after fresh xs).bits ≡ 0 + sum_by (λ (r : ClassicalRegister). r.size) (filter_map bits_of xs) = registers_sum fresh xs in record {
+    let end = fold_sound nothing_known fresh_sound xs fine in
+    let all : (fold after nothing_known xs).bits ≡ 0 + sum_by (λ (r : ClassicalRegister). r.size) (filter_map declared_bits xs) = registers_sum nothing_known xs in record {
       gates = end.gates;
-      steps = steps_sound fresh fresh_sound xs fine;
+      steps = steps_sound nothing_known fresh_sound xs fine;
       wires = end.few_wires;
       bits = end.few_bits;
-      sizes = registers_sizes fresh xs fine;
-      free = registers_free fresh xs fine;
-      apart = registers_apart fresh xs fine;
+      sizes = registers_sizes nothing_known xs fine;
+      free = registers_free nothing_known xs fine;
+      apart = registers_apart nothing_known xs fine;
       sum = omega arith;
     }
 

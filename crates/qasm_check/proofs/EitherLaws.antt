@@ -5,8 +5,8 @@
 use Rattle.std.proofs.Common.{◌≡◌, ◌⊎◌, inl, inr, ◌+◌, List, [], ◌∷◌, ◌++◌, Option, None, Some, refl, ap, length, fold}
 use Rattle.qasm_parser.specs.Tree.{Statement, Tree}
 use Rattle.qasm_check.specs.Checking.{AllFine, IsCheckRefused, IsFineTree}
-use Rattle.qasm_check.specs.Known.{Known, fresh}
-use Rattle.qasm_check.specs.Refusals.{IsLeast}
+use Rattle.qasm_check.specs.Known.{Known, nothing_known}
+use Rattle.qasm_check.specs.Refusals.{IsFirstRefusal}
 use Rattle.qasm_check.specs.Steps.{after}
 use Rattle.qasm_check.specs.Verdicts.{verdict}
 use Rattle.qasm_check.specs.declared.refusal.CheckRefusal.{CheckRefusal}
@@ -16,7 +16,7 @@ use Rattle.qasm_check.proofs.VerdictLaws.{fine-verdict, least-verdict}
 abbrev FirstIn : Known → List Statement → Type 0
 FirstIn k list =
     (before : List Statement) × (s : Statement) × (rest : List Statement) × (r : CheckRefusal)
-    × (list ≡ before ++ s ∷ rest) × AllFine k before × IsLeast (fold after k before) s r
+    × (list ≡ before ++ s ∷ rest) × AllFine k before × IsFirstRefusal (fold after k before) s r
 
 by_verdict : (k : Known) (s : Statement) (rest : List Statement) (o : Option CheckRefusal) → verdict k s ≡ o
     → AllFine (after k s) rest ⊎ FirstIn (after k s) rest → AllFine k (s ∷ rest) ⊎ FirstIn k (s ∷ rest)
@@ -30,9 +30,9 @@ fine_or_first k [] = inl tt
 fine_or_first k (s ∷ rest) = by_verdict k s rest (verdict k s) refl (fine_or_first (after k s) rest)
 
 pub checked_or_refused : (t : Tree) → IsFineTree t ⊎ ((r : CheckRefused) × IsCheckRefused t r)
-checked_or_refused t = told (fine_or_first fresh t.list)
+checked_or_refused t = told (fine_or_first nothing_known t.list)
   where
-    told : AllFine fresh t.list ⊎ FirstIn fresh t.list → IsFineTree t ⊎ ((r : CheckRefused) × IsCheckRefused t r)
+    told : AllFine nothing_known t.list ⊎ FirstIn nothing_known t.list → IsFineTree t ⊎ ((r : CheckRefused) × IsCheckRefused t r)
     told (inl fine) = inl fine
     told (inr (before, s, rest, r, split, fine, least)) =
         inr (record { refusal = r; statement = length before + 1 }, (before, s, rest, split, refl, fine, least))

@@ -18,12 +18,12 @@ use Rattle.qasm_lexer.specs.declared.LexFault.{LexFault}
 use Rattle.qasm_parser.specs.declared.tree.Arg.{Arg}
 use Rattle.qasm_parser.specs.declared.symbols.Keyword.TheVariants.{Gate, Pi, U, Cx}
 use Rattle.qasm_parser.specs.declared.symbols.Mark.TheVariants.{Semicolon, Comma, Open, Close, OpenBrace, CloseBrace}
-use Rattle.qasm_parser.specs.Expressions.{IsShaped, IsWritten, level}
-use Rattle.qasm_parser.specs.Spelling.{Form, by_u, by_cx, alone, empty, listed, Params, bare, given, Seen, seen, BehindComma, SpellsAngle, SpellsArg, SpellsArgs, SpellsEach, SpellsForm, SpellsItem, SpellsList, SpellsName, SpellsParams, SpellsStatement}
+use Rattle.qasm_parser.specs.Expressions.{IsShaped, SpellsExpression, level}
+use Rattle.qasm_parser.specs.Spelling.{Form, by_u, by_cx, alone, empty, listed, Params, bare, given, SeenExpression, seen, BehindComma, SpellsAngle, SpellsArg, SpellsArgs, SpellsEach, SpellsForm, SpellsItem, SpellsList, SpellsName, SpellsParams, SpellsStatement}
 use Rattle.qasm_parser.specs.Symbols.{Symbol, mark_symbol, sign, symbol_by, symbols, whole, word, word_symbol, name, mark}
 use Rattle.qasm_parser.specs.Tree.{Application, Definition, Expression, apply, binary, depth, gate, negated, number, param, pi}
-use Rattle.gate_library.specs.Library.{gate_of, table_index, table_names, whole as whole_number}
-use Rattle.gate_library.specs.Listing.{Angle, Entry, Line, added, minus, nought, over, param as by_name, pi as angle_pi, standard}
+use Rattle.gate_library.specs.Library.{entry_gate, table_index, table_names, whole_fraction as whole_number}
+use Rattle.gate_library.specs.Listing.{Angle, Entry, BodyLine, added_gates, minus, nought, over, param as by_name, pi as angle_pi, standard}
 use Rattle.qasm_check.specs.Steps.{bound_gate}
 use Rattle.qasm_check.specs.Texts.{AreSpelt, IsSpelt, included, texts}
 use Rattle.qasm_check.proofs.SoundLaws.{first, second}
@@ -39,7 +39,7 @@ expression_of (over part by) = binary Div (expression_of part) (number (whole_nu
 abbrev pub arg_of : List ℕ → Arg
 arg_of n = record { name = n; index = None }
 
-abbrev pub application_of : Line → Application
+abbrev pub application_of : BodyLine → Application
 application_of l = record { gate = l.gate; angles = map expression_of l.angles; args = map arg_of l.qubits }
 
 abbrev pub tree_of : Entry → Definition
@@ -68,7 +68,7 @@ shaped (by_name n) e = tt
 shaped (minus part) e = (at_least 3 _ (first _ _ e), shaped part (second _ _ e))
 shaped (over part by) e = (at_least 2 _ (first _ _ e), lit≤ tt, shaped part (second _ _ e), tt)
 
-written : (a : Angle) (rest : List Symbol) → IsWritten (expression_of a) (angle_symbols a rest) rest
+written : (a : Angle) (rest : List Symbol) → SpellsExpression (expression_of a) (angle_symbols a rest) rest
 written nought rest = inl refl
 written angle_pi rest = refl
 written (by_name n) rest = refl
@@ -89,7 +89,7 @@ abbrev pub angles_symbols : List Angle → List Symbol → List Symbol
 angles_symbols [] rest = rest
 angles_symbols (a ∷ more) rest = angle_symbols a (more_angles more rest)
 
-abbrev pub more_seen : List Angle → List Symbol → List Seen
+abbrev pub more_seen : List Angle → List Symbol → List SeenExpression
 more_seen [] rest = []
 more_seen (a ∷ more) rest = (seen (length (angle_symbols a (more_angles more rest))) (depth (expression_of a)) ∷ []) ++ more_seen more rest
 
@@ -149,17 +149,17 @@ abbrev pub by_angles : List Angle → Form
 by_angles [] = alone
 by_angles (a ∷ more) = listed
 
-abbrev pub form_of : Line → Form
+abbrev pub form_of : BodyLine → Form
 form_of l = if bytes_eq l.gate (codes "U") then by_u else (if bytes_eq l.gate (codes "CX") then by_cx else by_angles l.angles)
 
-abbrev pub form_symbols : Form → Line → List Symbol → List Symbol
+abbrev pub form_symbols : Form → BodyLine → List Symbol → List Symbol
 form_symbols by_u l rest = word U ∷ mark Open ∷ angles_symbols l.angles (mark Close ∷ rest)
 form_symbols by_cx l rest = word Cx ∷ rest
 form_symbols alone l rest = name l.gate ∷ rest
 form_symbols empty l rest = name l.gate ∷ mark Open ∷ mark Close ∷ rest
 form_symbols listed l rest = name l.gate ∷ mark Open ∷ angles_symbols l.angles (mark Close ∷ rest)
 
-abbrev pub form_seen : Form → Line → List Symbol → List Seen
+abbrev pub form_seen : Form → BodyLine → List Symbol → List SeenExpression
 form_seen by_u l rest = more_seen l.angles (mark Close ∷ rest)
 form_seen listed l rest = more_seen l.angles (mark Close ∷ rest)
 form_seen _ l rest = []
@@ -172,7 +172,7 @@ abbrev pub has_none : {A : Type 0} → List A → Bool
 has_none [] = true
 has_none (x ∷ xs) = false
 
-abbrev pub has_form : Form → Line → Bool
+abbrev pub has_form : Form → BodyLine → Bool
 has_form by_u l = bytes_eq l.gate (codes "U") && (has_some l.angles && are_shaped l.angles)
 has_form by_cx l = bytes_eq l.gate (codes "CX") && has_none l.angles
 has_form alone l = has_none l.angles
@@ -191,7 +191,7 @@ no_angles (a ∷ more) e = absurd (cc)
 same_name : (a b : List ℕ) → bytes_eq a b ≡ true → a ≡ b
 same_name a b e = (bytes_eq-Decides a b).0 e
 
-form_spelt : (form : Form) (l : Line) (rest : List Symbol) → has_form form l ≡ true
+form_spelt : (form : Form) (l : BodyLine) (rest : List Symbol) → has_form form l ≡ true
     → SpellsForm form (application_of l) (form_symbols form l rest) rest (form_seen form l rest)
 form_spelt by_u l rest e = (
   same_name l.gate (codes "U") (first _ _ e),
@@ -204,20 +204,20 @@ form_spelt alone l rest e = (no_angles l.angles e, refl, refl)
 form_spelt empty l rest e = (no_angles l.angles e, refl, refl)
 form_spelt listed l rest e = (angles_symbols l.angles (mark Close ∷ rest), refl, some_angles l.angles (mark Close ∷ rest) e)
 
-abbrev pub line_symbols : Line → List Symbol → List Symbol
+abbrev pub line_symbols : BodyLine → List Symbol → List Symbol
 line_symbols l rest = form_symbols (form_of l) l (names_symbols l.qubits (mark Semicolon ∷ rest))
 
-abbrev pub line_seen : Line → List Symbol → List Seen
+abbrev pub line_seen : BodyLine → List Symbol → List SeenExpression
 line_seen l rest = form_seen (form_of l) l (names_symbols l.qubits (mark Semicolon ∷ rest))
 
-abbrev pub is_line : Line → Bool
+abbrev pub is_line : BodyLine → Bool
 is_line l = has_form (form_of l) l && has_some l.qubits
 
 some_args : (ns : List (List ℕ)) (rest : List Symbol) → has_some ns ≡ true → SpellsArgs true (map arg_of ns) (names_symbols ns (mark Semicolon ∷ rest)) rest
 some_args [] rest e = absurd (cc)
 some_args (n ∷ ns) rest e = args_spelt n ns rest
 
-line_spelt : (l : Line) (rest : List Symbol) → is_line l ≡ true → SpellsItem (apply (application_of l)) (line_symbols l rest) rest (line_seen l rest)
+line_spelt : (l : BodyLine) (rest : List Symbol) → is_line l ≡ true → SpellsItem (apply (application_of l)) (line_symbols l rest) rest (line_seen l rest)
 line_spelt l rest e = (
   form_of l,
   names_symbols l.qubits (mark Semicolon ∷ rest),
@@ -226,19 +226,19 @@ line_spelt l rest e = (
 )
 
 -- ---- bodies
-abbrev pub lines_symbols : List Line → List Symbol → List Symbol
+abbrev pub lines_symbols : List BodyLine → List Symbol → List Symbol
 lines_symbols [] rest = rest
 lines_symbols (l ∷ ls) rest = line_symbols l (lines_symbols ls rest)
 
-abbrev pub lines_seen : List Line → List Symbol → List Seen
+abbrev pub lines_seen : List BodyLine → List Symbol → List SeenExpression
 lines_seen [] rest = []
 lines_seen (l ∷ ls) rest = line_seen l (lines_symbols ls rest) ++ lines_seen ls rest
 
-abbrev pub are_lines : List Line → Bool
+abbrev pub are_lines : List BodyLine → Bool
 are_lines [] = true
 are_lines (l ∷ ls) = is_line l && are_lines ls
 
-lines_spelt : (ls : List Line) (rest : List Symbol) → are_lines ls ≡ true
+lines_spelt : (ls : List BodyLine) (rest : List Symbol) → are_lines ls ≡ true
     → SpellsEach SpellsItem (map (λ l. apply (application_of l)) ls) (lines_symbols ls rest) rest (lines_seen ls rest)
 lines_spelt [] rest e = (refl, refl)
 lines_spelt (l ∷ ls) rest e = (
@@ -302,7 +302,7 @@ tokens_in (Ok tokens) = tokens
 tokens_in (Err fault) = []
 
 spelt : (text : List ℕ) (e : Entry) → lexed text ≡ Ok (tokens_in (lexed text)) → symbols text (tokens_in (lexed text)) ≡ entry_symbols e []
-    → is_entry e ≡ true → bound_gate included (tree_of e) ≡ gate_of e → IsSpelt text e
+    → is_entry e ≡ true → bound_gate included (tree_of e) ≡ entry_gate e → IsSpelt text e
 spelt text e a b c d = record {
   tokens = tokens_in (lexed text);
   found = lines_seen e.body (mark CloseBrace ∷ []);
@@ -313,8 +313,8 @@ spelt text e a b c d = record {
   bound = d;
 }
 
-pub all_spelt : AreSpelt texts (standard ++ added)
-unfolding texts standard added table_names table_index lexed_from form_len lexeme_len digit digits_number scaled lowest common_factor greatest_common is_small symbol_by word_symbol mark_symbol
+pub all_spelt : AreSpelt texts (standard ++ added_gates)
+unfolding texts standard added_gates table_names table_index lexed_from form_len lexeme_len digit digits_number scaled lowest common_factor greatest_common is_small symbol_by word_symbol mark_symbol
 all_spelt = (
   spelt _ _ refl refl refl refl,
   (

@@ -14,10 +14,10 @@ use Rattle.std.proofs.lemmas.List.Elements.{All-from_recursion, filter_map-appen
 use Rattle.std.proofs.lemmas.List.{length-map, length-take, map_more, map-append, take-append-drop}
 use Rattle.qasm_parser.specs.declared.tree.Stmt.{Stmt}
 use Rattle.qasm_parser.specs.Tree.{statement as tree, Statement, include, register, gate, opaque, conditional, act}
-use Rattle.qasm_check.specs.Checking.{AllFine, IsFaultIn, IsRefusedIn, bits_of, steps}
-use Rattle.qasm_check.specs.Known.{Known, fresh}
-use Rattle.qasm_check.specs.Refusals.{IsFine}
-use Rattle.qasm_check.specs.Steps.{Step, after, known, step}
+use Rattle.qasm_check.specs.Checking.{AllFine, IsFaultIn, IsRefusedIn, declared_bits, steps}
+use Rattle.qasm_check.specs.Known.{Known, nothing_known}
+use Rattle.qasm_check.specs.Refusals.{IsUnrefused}
+use Rattle.qasm_check.specs.Steps.{BoundStep, after, known, statement_step}
 use Rattle.qasm_check.specs.Verdicts.{IsStop, check_fault, verdict}
 use Rattle.qasm_check.specs.declared.stop.CheckStop.{CheckStop}
 use Rattle.qasm_check.specs.declared.stop.CheckStop.TheVariants.{NoMemory, Refused as Stopped}
@@ -27,7 +27,7 @@ use Rattle.qasm_check.specs.declared.register.ClassicalRegister.{ClassicalRegist
 use Rattle.qasm_check.proofs.LoopLaws.{drop_read}
 use Rattle.qasm_check.proofs.VerdictLaws.{fine-verdict, least-verdict}
 
-size-bits : (k : Known) (s : Statement) → IsFine k s → ForSome (bits_of s) (λ b. b.size < 2 ^ 32)
+size-bits : (k : Known) (s : Statement) → IsUnrefused k s → ForSome (declared_bits s) (λ b. b.size < 2 ^ 32)
 size-bits k (include file) fine = λ b f. absurd (cc)
 size-bits k (register true name size) fine = λ b f. absurd (cc)
 size-bits k (register false name size) fine = λ b f.
@@ -43,23 +43,23 @@ size-bits k (conditional name value inner) fine = λ b f. absurd (cc)
 size-bits k (act it) fine = λ b f. absurd (cc)
 
 abbrev IsSmall : Stmt → Type 0
-IsSmall s = ForSome (bits_of (tree s)) (λ b. b.size < 2 ^ 32)
+IsSmall s = ForSome (declared_bits (tree s)) (λ b. b.size < 2 ^ 32)
 
 each_small : (k : Known) (xs : List Stmt) → AllFine k (map tree xs) → AllByRecursion IsSmall xs
 each_small k [] fine = tt
 each_small k (x ∷ xs) fine = (size-bits k (tree x) fine.0, each_small (after k (tree x)) xs fine.1)
 
-pub all_small : (xs : List Stmt) → AllFine fresh (map tree xs) → All IsSmall xs
-all_small xs fine = All-from_recursion IsSmall xs (each_small fresh xs fine)
+pub all_small : (xs : List Stmt) → AllFine nothing_known (map tree xs) → All IsSmall xs
+all_small xs fine = All-from_recursion IsSmall xs (each_small nothing_known xs fine)
 
 pub known-push : (xs : List Statement) (s : Statement) → known (xs ++ s ∷ []) ≡ after (known xs) s
-known-push xs s = fold-append after fresh xs (s ∷ [])
+known-push xs s = fold-append after nothing_known xs (s ∷ [])
 
-steps-push : (k : Known) (xs : List Statement) (s : Statement) → steps k (xs ++ s ∷ []) ≡ steps k xs ++ step (fold after k xs) s ∷ []
+steps-push : (k : Known) (xs : List Statement) (s : Statement) → steps k (xs ++ s ∷ []) ≡ steps k xs ++ statement_step (fold after k xs) s ∷ []
 steps-push k [] s = refl
-steps-push k (x ∷ xs) s = ap (λ (ys : List Step). step k x ∷ ys) (steps-push (after k x) xs s)
+steps-push k (x ∷ xs) s = ap (λ (ys : List BoundStep). statement_step k x ∷ ys) (steps-push (after k x) xs s)
 
-AllFine-push : (k : Known) (xs : List Statement) (s : Statement) → AllFine k xs → IsFine (fold after k xs) s → AllFine k (xs ++ s ∷ [])
+AllFine-push : (k : Known) (xs : List Statement) (s : Statement) → AllFine k xs → IsUnrefused (fold after k xs) s → AllFine k (xs ++ s ∷ [])
 AllFine-push k [] s fine now = (now, tt)
 AllFine-push k (x ∷ xs) s fine now = (fine.0, AllFine-push (after k x) xs s fine.1 now)
 
@@ -75,9 +75,9 @@ pub small_at : (all ys rest : List Stmt) (x : Stmt) → All IsSmall all → ys +
 small_at all ys rest x h e = small_in ys rest x (recursion_from_All IsSmall _ (subst (All IsSmall) (sym e) h))
 
 pub registers-push : (ys : List Stmt) (x : Stmt)
-    → filter_map bits_of (map tree (ys ++ x ∷ [])) ≡ filter_map bits_of (map tree ys) ++ option_to_list (bits_of (tree x))
-registers-push ys x = ap (filter_map bits_of) (map-append tree ys (x ∷ [])) ∙ filter_map-append bits_of (map tree ys) (tree x ∷ [])
-    ∙ ap (λ zs. filter_map bits_of (map tree ys) ++ zs) (cons-nil (bits_of (tree x)))
+    → filter_map declared_bits (map tree (ys ++ x ∷ [])) ≡ filter_map declared_bits (map tree ys) ++ option_to_list (declared_bits (tree x))
+registers-push ys x = ap (filter_map declared_bits) (map-append tree ys (x ∷ [])) ∙ filter_map-append declared_bits (map tree ys) (tree x ∷ [])
+    ∙ ap (λ zs. filter_map declared_bits (map tree ys) ++ zs) (cons-nil (declared_bits (tree x)))
 
 length-cons_option : {A : Type 0} (o : Option A) (ys : List A) → length (cons_option o ys) ≤ length ys + 1
 length-cons_option None ys = omega arith
@@ -90,10 +90,10 @@ length-filter_map f (x ∷ xs) =
     let here = length-cons_option (f x) (filter_map f xs) in
     omega arith
 
-pub fewer_registers : (xs : List Stmt) (registers : List ClassicalRegister) → registers ≡ filter_map bits_of (map tree xs) → length registers ≤ length xs
+pub fewer_registers : (xs : List Stmt) (registers : List ClassicalRegister) → registers ≡ filter_map declared_bits (map tree xs) → length registers ≤ length xs
 fewer_registers xs registers e =
-    let same : length registers ≡ length (filter_map bits_of (map tree xs)) = ap (λ (ys : List ClassicalRegister). length ys) e in
-    let fewer = length-filter_map bits_of (map tree xs) in
+    let same : length registers ≡ length (filter_map declared_bits (map tree xs)) = ap (λ (ys : List ClassicalRegister). length ys) e in
+    let fewer = length-filter_map declared_bits (map tree xs) in
     let one_each : length (map tree xs) ≡ length xs = length-map xs tree in
     omega arith
 
@@ -102,16 +102,16 @@ module _ (xs : List Stmt) (i : ℕ) (d : Stmt) where
   pub known_more : i < length xs → known (map tree (take (i + 1) xs)) ≡ after (known (map tree (take i xs))) (tree (get_or xs i d))
   known_more lt = ap known (map_more tree xs i d lt) ∙ known-push (map tree (take i xs)) (tree (get_or xs i d))
 
-  pub fine_more : i < length xs → AllFine fresh (map tree (take i xs)) → verdict (known (map tree (take i xs))) (tree (get_or xs i d)) ≡ None
-      → AllFine fresh (map tree (take (i + 1) xs))
-  fine_more lt fine e = subst (AllFine fresh) (sym (map_more tree xs i d lt))
-      (AllFine-push fresh (map tree (take i xs)) (tree (get_or xs i d)) fine (fine-verdict _ _ e))
+  pub fine_more : i < length xs → AllFine nothing_known (map tree (take i xs)) → verdict (known (map tree (take i xs))) (tree (get_or xs i d)) ≡ None
+      → AllFine nothing_known (map tree (take (i + 1) xs))
+  fine_more lt fine e = subst (AllFine nothing_known) (sym (map_more tree xs i d lt))
+      (AllFine-push nothing_known (map tree (take i xs)) (tree (get_or xs i d)) fine (fine-verdict _ _ e))
 
   pub steps_more : i < length xs
-      → steps fresh (map tree (take (i + 1) xs)) ≡ steps fresh (map tree (take i xs)) ++ step (known (map tree (take i xs))) (tree (get_or xs i d)) ∷ []
-  steps_more lt = ap (steps fresh) (map_more tree xs i d lt) ∙ steps-push fresh (map tree (take i xs)) (tree (get_or xs i d))
+      → steps nothing_known (map tree (take (i + 1) xs)) ≡ steps nothing_known (map tree (take i xs)) ++ statement_step (known (map tree (take i xs))) (tree (get_or xs i d)) ∷ []
+  steps_more lt = ap (steps nothing_known) (map_more tree xs i d lt) ∙ steps-push nothing_known (map tree (take i xs)) (tree (get_or xs i d))
 
-  pub refused_at : (r : CheckRefused) → i < length xs → AllFine fresh (map tree (take i xs))
+  pub refused_at : (r : CheckRefused) → i < length xs → AllFine nothing_known (map tree (take i xs))
       → verdict (known (map tree (take i xs))) (tree (get_or xs i d)) ≡ Some r.refusal → r.statement ≡ i + 1 → IsRefusedIn (map tree xs) r
   refused_at r lt fine e at =
       let size : length (map tree (take i xs)) ≡ i = length-map (take i xs) tree ∙ (let h : length (take i xs) ≡ i = omega (arith, length-take i xs) in h) in
@@ -120,7 +120,7 @@ module _ (xs : List Stmt) (i : ℕ) (d : Stmt) where
       ap (map tree) (sym (take-append-drop i xs) ∙ ap (λ ys. take i xs ++ ys) (drop_read xs i d lt)) ∙ map-append tree (take i xs) (get_or xs i d ∷ drop (i + 1) xs) in
       (map tree (take i xs), tree (get_or xs i d), map tree (drop (i + 1) xs), split, place, fine, least-verdict _ _ r.refusal e)
 
-  pub fault_at : (stop : CheckStop) → i < length xs → AllFine fresh (map tree (take i xs))
+  pub fault_at : (stop : CheckStop) → i < length xs → AllFine nothing_known (map tree (take i xs))
       → IsStop (verdict (known (map tree (take i xs))) (tree (get_or xs i d))) stop → IsFaultIn (map tree xs) (check_fault stop (i + 1))
   fault_at NoMemory lt fine e = tt
   fault_at (Stopped r) lt fine e = refused_at (record { refusal = r; statement = i + 1 }) lt fine e refl

@@ -13,7 +13,7 @@ use Rattle.std.specs.Cmp.Lexicographic.{nat_list_eq_equiv}
 use Rattle.std.proofs.lemmas.List.Sums.{sum_by-cons}
 use Rattle.std.proofs.lemmas.Slice.Eq.{bytes_eq-Decides}
 use Rattle.qasm_parser.specs.Tree.{apply, measure, reset as resets, barrier, Statement, include, register, gate, opaque, conditional, act}
-use Rattle.qasm_check.specs.Checking.{AllFine, bits_of}
+use Rattle.qasm_check.specs.Checking.{AllFine, declared_bits}
 use Rattle.gate_library.specs.Library.{table_names}
 use Rattle.gate_library.specs.Names.{has_repeat, is_one_of, with}
 use Rattle.qasm_check.specs.Arguments.{operand}
@@ -24,7 +24,7 @@ use Rattle.gate_library.specs.declared.operand.Operand.{Operand}
 use Rattle.qasm_check.specs.declared.refusal.CheckRefusal.TheVariants.{NameTaken, EmptyRegister}
 use Rattle.qasm_check.proofs.SoundLaws.{both, neither_first, neither_second}
 
-pub registers_sizes : (k : Known) (xs : List Statement) → AllFine k xs → list_all (λ r. nat_lt 0 r.size) (filter_map bits_of xs) ≡ true
+pub registers_sizes : (k : Known) (xs : List Statement) → AllFine k xs → list_all (λ r. nat_lt 0 r.size) (filter_map declared_bits xs) ≡ true
 registers_sizes k [] fine = refl
 registers_sizes k (include file ∷ xs) fine = registers_sizes (after k (include file)) xs fine.1
 registers_sizes k (register true name size ∷ xs) fine = registers_sizes (after k (register true name size)) xs fine.1
@@ -37,7 +37,7 @@ registers_sizes k (opaque d ∷ xs) fine = registers_sizes (after k (opaque d)) 
 registers_sizes k (conditional name value inner ∷ xs) fine = registers_sizes (after k (conditional name value inner)) xs fine.1
 registers_sizes k (act it ∷ xs) fine = registers_sizes (after k (act it)) xs fine.1
 
-pub registers_free : (k : Known) (xs : List Statement) → AllFine k xs → list_any (λ r. is_one_of table_names r.name) (filter_map bits_of xs) ≡ false
+pub registers_free : (k : Known) (xs : List Statement) → AllFine k xs → list_any (λ r. is_one_of table_names r.name) (filter_map declared_bits xs) ≡ false
 registers_free k [] fine = refl
 registers_free k (include file ∷ xs) fine = registers_free (after k (include file)) xs fine.1
 registers_free k (register true name size ∷ xs) fine = registers_free (after k (register true name size)) xs fine.1
@@ -71,7 +71,7 @@ stays k (act (barrier args)) asked e = e
 
 -- a name that is declared is that of no later register
 not_again : (k : Known) (xs : List Statement) (asked : List ℕ) → AllFine k xs → is_some (k.declared asked) ≡ true
-    → list_any (bytes_eq asked) (map (λ b. b.name) (filter_map bits_of xs)) ≡ false
+    → list_any (bytes_eq asked) (map (λ b. b.name) (filter_map declared_bits xs)) ≡ false
 not_again k [] asked fine e = refl
 not_again k (include file ∷ xs) asked fine e = not_again (after k (include file)) xs asked fine.1 (stays k (include file) asked e)
 not_again k (register true name size ∷ xs) asked fine e = not_again (after k (register true name size)) xs asked fine.1 (stays k (register true name size) asked e)
@@ -87,14 +87,14 @@ not_again k (opaque d ∷ xs) asked fine e = not_again (after k (opaque d)) xs a
 not_again k (conditional name value inner ∷ xs) asked fine e = not_again (after k (conditional name value inner)) xs asked fine.1 e
 not_again k (act it ∷ xs) asked fine e = not_again (after k (act it)) xs asked fine.1 (stays k (act it) asked e)
 
-pub registers_apart : (k : Known) (xs : List Statement) → AllFine k xs → has_repeat bytes_eq (map (λ b. b.name) (filter_map bits_of xs)) ≡ false
+pub registers_apart : (k : Known) (xs : List Statement) → AllFine k xs → has_repeat bytes_eq (map (λ b. b.name) (filter_map declared_bits xs)) ≡ false
 registers_apart k [] fine = refl
 registers_apart k (include file ∷ xs) fine = registers_apart (after k (include file)) xs fine.1
 registers_apart k (register true name size ∷ xs) fine = registers_apart (after k (register true name size)) xs fine.1
 registers_apart k (register false name size ∷ xs) fine =
     let l = after k (register false name size) in
     let declared : is_some (l.declared name) ≡ true = let y : bytes_eq name name ≡ true = nat_list_eq_equiv.refl name in rw y refl in
-    let here : list_any (bytes_eq name) (map (λ b. b.name) (filter_map bits_of xs)) ≡ false = not_again l xs name fine.1 declared in
+    let here : list_any (bytes_eq name) (map (λ b. b.name) (filter_map declared_bits xs)) ≡ false = not_again l xs name fine.1 declared in
     rw here (registers_apart l xs fine.1)
 registers_apart k (gate d ∷ xs) fine = registers_apart (after k (gate d)) xs fine.1
 registers_apart k (opaque d ∷ xs) fine = registers_apart (after k (opaque d)) xs fine.1
@@ -106,20 +106,20 @@ measured-bits : (k : Known) (o : Option Operand) → (with_measured k o).bits �
 measured-bits k None = refl
 measured-bits k (Some p) = refl
 
-pub registers_sum : (k : Known) (xs : List Statement) → (fold after k xs).bits ≡ k.bits + sum_by (λ r. r.size) (filter_map bits_of xs)
+pub registers_sum : (k : Known) (xs : List Statement) → (fold after k xs).bits ≡ k.bits + sum_by (λ r. r.size) (filter_map declared_bits xs)
 registers_sum k [] = omega arith
 registers_sum k (include file ∷ xs) = registers_sum (after k (include file)) xs
 registers_sum k (register true name size ∷ xs) = registers_sum (after k (register true name size)) xs
 registers_sum k (register false name size ∷ xs) =
     let made : ClassicalRegister = record { name = name; size = size } in
-    let later : (fold after k (register false name size ∷ xs)).bits ≡ k.bits + size + sum_by (λ r. r.size) (filter_map bits_of xs) = registers_sum (after k (register false name size)) xs in
-    let sums : sum_by (λ r. r.size) (filter_map bits_of (register false name size ∷ xs)) ≡ size + sum_by (λ r. r.size) (filter_map bits_of xs) = sum_by-cons (λ (r : ClassicalRegister). r.size) made (filter_map bits_of xs) in
+    let later : (fold after k (register false name size ∷ xs)).bits ≡ k.bits + size + sum_by (λ r. r.size) (filter_map declared_bits xs) = registers_sum (after k (register false name size)) xs in
+    let sums : sum_by (λ r. r.size) (filter_map declared_bits (register false name size ∷ xs)) ≡ size + sum_by (λ r. r.size) (filter_map declared_bits xs) = sum_by-cons (λ (r : ClassicalRegister). r.size) made (filter_map declared_bits xs) in
     omega arith
 registers_sum k (gate d ∷ xs) = registers_sum (after k (gate d)) xs
 registers_sum k (opaque d ∷ xs) = registers_sum (after k (opaque d)) xs
 registers_sum k (conditional name value inner ∷ xs) = registers_sum (after k (conditional name value inner)) xs
 registers_sum k (act (apply a) ∷ xs) = registers_sum k xs
 registers_sum k (act (measure qubit bit) ∷ xs) = registers_sum (with_measured k (operand k qubit)) xs
-    ∙ ap (λ n. n + sum_by (λ (r : ClassicalRegister). r.size) (filter_map bits_of xs)) (measured-bits k (operand k qubit))
+    ∙ ap (λ n. n + sum_by (λ (r : ClassicalRegister). r.size) (filter_map declared_bits xs)) (measured-bits k (operand k qubit))
 registers_sum k (act (resets arg) ∷ xs) = registers_sum k xs
 registers_sum k (act (barrier args) ∷ xs) = registers_sum k xs

@@ -20,7 +20,7 @@ use Rattle.std.proofs.lemmas.Slice.Eq.{bytes_eq-Decides}
 use Rattle.qasm_parser.specs.Tree.{Expression, number, pi, param, negated, paren, call, binary, Action, Application, Definition, apply, measure, reset as resets, barrier, gate as declares}
 use Rattle.qasm_parser.specs.declared.tree.Arg.{Arg}
 use Rattle.gate_library.specs.Gates.{BoundGate, u, call as i-call, gate_at, gate_params, gate_qubits, is_opaque}
-use Rattle.qasm_check.specs.Refusals.{IsFine, applies_opaque, in_body, of_gate, params_differ, qubits_differ, repeats_name, unknown_in_body}
+use Rattle.qasm_check.specs.Refusals.{IsUnrefused, applies_opaque, in_body, of_gate, params_differ, qubits_differ, repeats_name, unknown_in_body}
 use Rattle.qasm_check.specs.declared.meaning.Meaning.TheVariants.{Gate as Numbered, Register}
 use Rattle.qasm_check.specs.declared.refusal.CheckRefusal.TheVariants.{UnknownName, WrongKind, ParamCount, QubitCount, RepeatedQubit, OpaqueApplied}
 use Rattle.gate_library.specs.Names.{has_repeat, is_one_of, index_of}
@@ -210,6 +210,6 @@ body_sound k has params qubits (it ∷ body) un r p q d o =
     both _ _ (item_sound k has params qubits it (neither_first _ _ un) (neither_first _ _ r) (neither_first _ _ p) (neither_first _ _ q) (neither_first _ _ d) (neither_first _ _ o))
     (body_sound k has params qubits body (neither_second _ _ un) (neither_second _ _ r) (neither_second _ _ p) (neither_second _ _ q) (neither_second _ _ d) (neither_second _ _ o))
 
-pub gate_sound : (k : Known) → HasGates k → (d : Definition) → IsFine k (declares d) → is_gate k.gates (bound_gate k d) ≡ true
+pub gate_sound : (k : Known) → HasGates k → (d : Definition) → IsUnrefused k (declares d) → is_gate k.gates (bound_gate k d) ≡ true
 gate_sound k has d fine = body_sound k has d.params d.qubits d.body
     (fine UnknownName) (fine WrongKind) (fine ParamCount) (fine QubitCount) (fine RepeatedQubit) (fine OpaqueApplied)

@@ -21,7 +21,7 @@ use Rattle.std.proofs.lemmas.Map.Text.{is_eq-slice_cmp}
 use denote.Ref.{Bor}
 use Rattle.gate_library.specs.Names.{with}
 use Rattle.gate_library.proofs.RepeatLaws.{key}
-use Rattle.qasm_check.specs.State.{found, tail, named}
+use Rattle.qasm_check.specs.State.{found, tail, value_of_name}
 
 pub found-updates : {A : Type 0} (name : List ℕ) (m n : BTreeMap (Bor (List ℕ)) A) (w : Option A)
     → UpdatesBy (λ x y. slice_cmp nat_cmp x.now y.now) (λ k. slice_cmp nat_cmp name k.now) m n w
@@ -60,11 +60,11 @@ behind_tail name = (tail name, key name)
 pub declared-with : {A : Type 0} (name : List ℕ) (at : ℕ) → at ≡ tail name → (m n : BTreeMap (ℕ × Bor (List ℕ)) A) (v : A)
     → UpdatesBy (λ x y. ordering_then (nat_cmp x.0 y.0) (slice_cmp nat_cmp x.1.now y.1.now))
     (λ k. ordering_then (nat_cmp at k.0) (slice_cmp nat_cmp name k.1.now)) m n (Some v)
-    → named n ≡ with name v (named m)
+    → value_of_name n ≡ with name v (value_of_name m)
 unfolding key behind_tail
 declared-with name at is m n v h = λ i. λ q.
     (h.0 (behind_tail q)
-    ∙ ap (λ b. cond b (Some v) (named m q)) (ap (λ x. is_eq (ordering_then (nat_cmp x (tail q)) (slice_cmp nat_cmp name q))) is ∙ same_key name q)) i
+    ∙ ap (λ b. cond b (Some v) (value_of_name m q)) (ap (λ x. is_eq (ordering_then (nat_cmp x (tail q)) (slice_cmp nat_cmp name q))) is ∙ same_key name q)) i
 
 -- one more wire is marked
 pub mark_more : (was before here old new : Bool) → old ≡ (was || before) → new ≡ cond here true old → new ≡ (was || (before || here))

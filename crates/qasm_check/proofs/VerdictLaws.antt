@@ -5,7 +5,7 @@ use Rattle.std.proofs.Common.{◌≡◌, ℕ, ◌+◌, ◌<◌, ◌≤◌, List,
 use Rattle.std.proofs.lemmas.Bool.{cases_Bool}
 use Rattle.qasm_parser.specs.Tree.{Statement}
 use Rattle.qasm_check.specs.Known.{Known}
-use Rattle.qasm_check.specs.Refusals.{IsFine, IsLeast, applies, code}
+use Rattle.qasm_check.specs.Refusals.{IsUnrefused, IsFirstRefusal, applies, code}
 use Rattle.qasm_check.specs.Verdicts.{either, verdict}
 use Rattle.qasm_check.specs.declared.refusal.CheckRefusal.{CheckRefusal}
 use Rattle.qasm_check.specs.declared.refusal.CheckRefusal.TheVariants.{Include, NameTaken, UnknownName, WrongKind, IndexRange, EmptyRegister, ParamCount, QubitCount, SizeDiffers, RepeatedQubit, Conditional, Reset, OpaqueApplied, AfterMeasure, TooManyQubits, TooManyBits}
@@ -99,10 +99,10 @@ verdict-first : (k : Known) (s : Statement) → verdict k s ≡ first_of (λ r. 
 unfolding order
 verdict-first k s = refl
 
-pub fine-verdict : (k : Known) (s : Statement) → verdict k s ≡ None → IsFine k s
+pub fine-verdict : (k : Known) (s : Statement) → verdict k s ≡ None → IsUnrefused k s
 fine-verdict k s e q = none-met (λ r. applies r k s) q order (sym (verdict-first k s) ∙ e) (every q)
 
-pub least-verdict : (k : Known) (s : Statement) (r : CheckRefusal) → verdict k s ≡ Some r → IsLeast k s r
+pub least-verdict : (k : Known) (s : Statement) (r : CheckRefusal) → verdict k s ≡ Some r → IsFirstRefusal k s r
 least-verdict k s r e =
     let first : first_of (λ q. applies q k s) order ≡ Some r = sym (verdict-first k s) ∙ e in record {
       applied = met (λ q. applies q k s) r order first;

@@ -1,7 +1,7 @@
 -- What is known behind some statements.
 --   Known          what the program's own names stand for, whether the tables are included, the gates by their numbers, how
 --                  many wires and bits there are, and which wires were measured
---   fresh          what is known at a program's beginning
+--   nothing_known  what is known at a program's beginning
 --   meaning        what a name stands for: what the program made of it, else a gate that needs no declaration, else nothing
 --   gate_number    the number of the gate that a name stands for
 --   with_register, with_gate, with_measured   what is known once a register or a gate is declared, or wires are measured
@@ -24,8 +24,8 @@ pub record Known : Type 0 where
   pub bits : ℕ
   pub measured : ℕ → Bool
 
-abbrev pub fresh : Known
-fresh = record {
+abbrev pub nothing_known : Known
+nothing_known = record {
   declared = λ name. None;
   included = false;
   gates = u ∷ cx ∷ library;

@@ -14,8 +14,8 @@
 --   repeats_name   two arguments of an application have one name
 --   applies        the test of this refusal
 --   code           its number
---   IsLeast        the refusal applies, and none of a lesser number does
---   IsFine         no refusal applies
+--   IsFirstRefusal  the refusal applies, and none of a lesser number does
+--   IsUnrefused    no refusal applies
 use Rattle.std.specs.Prelude.{◌≡◌, ℕ, ◌+◌, ◌<◌, List, [], ◌++◌, Option, Some, None, Bool, true, false, not, ◌&&◌, ◌||◌, ◌==◌, codes, is_none, is_some, length, map, nat_lt, IsTrue}
 use Rattle.std.specs.List.{list_any}
 use Rattle.std.specs.Str.{bytes_eq}
@@ -226,9 +226,9 @@ code AfterMeasure = 33
 code TooManyQubits = 34
 code TooManyBits = 35
 
-pub record IsLeast (k : Known) (s : Statement) (r : CheckRefusal) : Type 0 where
+pub record IsFirstRefusal (k : Known) (s : Statement) (r : CheckRefusal) : Type 0 where
   pub applied : IsTrue (applies r k s)
   pub least : (q : CheckRefusal) → code q < code r → applies q k s ≡ false
 
-abbrev pub IsFine : Known → Statement → Type 0
-IsFine k s = (q : CheckRefusal) → applies q k s ≡ false
+abbrev pub IsUnrefused : Known → Statement → Type 0
+IsUnrefused k s = (q : CheckRefusal) → applies q k s ≡ false

@@ -23,7 +23,7 @@ use Rattle.gate_library.specs.Names.{has_repeat, is_one_of}
 use Rattle.gate_library.specs.Operands.{broadcast, differs_from, repeats, sizes_differ}
 use Rattle.gate_library.specs.declared.operand.Operand.{Operand}
 use Rattle.qasm_check.specs.Bound.{Bound}
-use Rattle.qasm_check.specs.Steps.{Step, applies, measures, bars, nothing}
+use Rattle.qasm_check.specs.Steps.{BoundStep, applies, measures, barrier_on, nothing}
 
 abbrev pub uses_below : ℕ → Formula → Bool
 uses_below n (number value) = true
@@ -64,14 +64,14 @@ is_below size (Some i) = nat_lt i size
 abbrev pub is_operand : ℕ → Operand → Bool
 is_operand n p = nat_le (p.first + p.size) n && is_below p.size p.index
 
-abbrev pub is_step : List BoundGate → ℕ → ℕ → Step → Bool
+abbrev pub is_step : List BoundGate → ℕ → ℕ → BoundStep → Bool
 is_step gates wires bits (applies gate angles operands) =
     nat_lt gate (length gates) && fits (gate_at gates gate) (length angles) (length operands)
     && list_all (uses_below 0) angles && list_all (is_operand wires) operands
     && not (list_any (differs_from (broadcast operands)) operands) && not (repeats operands)
 is_step gates wires bits (measures qubit bit) =
     is_operand wires qubit && is_operand bits bit && not (sizes_differ qubit.index qubit.size bit.index bit.size)
-is_step gates wires bits (bars operands) = list_all (is_operand wires) operands
+is_step gates wires bits (barrier_on operands) = list_all (is_operand wires) operands
 is_step gates wires bits nothing = true
 
 -- ---- programs

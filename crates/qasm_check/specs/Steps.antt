@@ -2,10 +2,10 @@
 --   formula      an expression, each name replaced by its index among the parameters
 --   item         a line of the body of a gate
 --   bound_gate   a gate as it is declared, its body's names bound where it stands
---   Step         an application of a gate by its number, a measure, a barrier, or nothing that is done
---   applies, measures, bars, nothing   these, in this order
+--   BoundStep    an application of a gate by its number, a measure, a barrier, or nothing that is done
+--   applies, measures, barrier_on, nothing  these, in this order
 --   measure_step, act_step   what a measure does, nothing where an operand is missing; what an action does
---   step         what a statement does
+--   statement_step  what a statement does
 --   act_after    what is known behind an action
 --   after        what is known behind a statement
 --   known        what is known behind some statements
@@ -15,7 +15,7 @@ use Rattle.gate_library.specs.Gates.{Formula, number as f-number, pi as f-pi, pa
 use Rattle.gate_library.specs.Names.{index_of}
 use Rattle.gate_library.specs.declared.operand.Operand.{Operand}
 use Rattle.qasm_check.specs.Arguments.{operand, operands}
-use Rattle.qasm_check.specs.Known.{Known, fresh, meaning, gate_number, with_gate, with_measured, with_register}
+use Rattle.qasm_check.specs.Known.{Known, nothing_known, meaning, gate_number, with_gate, with_measured, with_register}
 
 abbrev pub formula : List (List ℕ) → Expression → Formula
 formula params (number value) = f-number value
@@ -37,30 +37,30 @@ item k params qubits (barrier args) = i-barrier
 abbrev pub bound_gate : Known → Definition → BoundGate
 bound_gate k d = composed (length d.params) (length d.qubits) (map (item k d.params d.qubits) d.body)
 
-pub data Step : Type 0 where
-  applies : (gate : ℕ) (angles : List Formula) (operands : List Operand) → Step
-  measures : (qubit bit : Operand) → Step
-  bars : (operands : List Operand) → Step
-  nothing : Step
+pub data BoundStep : Type 0 where
+  applies : (gate : ℕ) (angles : List Formula) (operands : List Operand) → BoundStep
+  measures : (qubit bit : Operand) → BoundStep
+  barrier_on : (operands : List Operand) → BoundStep
+  nothing : BoundStep
 
-abbrev pub measure_step : Option Operand → Option Operand → Step
+abbrev pub measure_step : Option Operand → Option Operand → BoundStep
 measure_step (Some qubit) (Some bit) = measures qubit bit
 measure_step (Some qubit) None = nothing
 measure_step None bit = nothing
 
-abbrev pub act_step : Known → Action → Step
+abbrev pub act_step : Known → Action → BoundStep
 act_step k (apply a) = applies (gate_number (meaning k a.gate)) (map (formula []) a.angles) (operands k a.args)
 act_step k (measure qubit bit) = measure_step (operand k qubit) (operand k bit)
 act_step k (reset arg) = nothing
-act_step k (barrier args) = bars (operands k args)
+act_step k (barrier args) = barrier_on (operands k args)
 
-abbrev pub step : Known → Statement → Step
-step k (include file) = nothing
-step k (register quantum name size) = nothing
-step k (gate d) = nothing
-step k (opaque d) = nothing
-step k (conditional name value inner) = nothing
-step k (act it) = act_step k it
+abbrev pub statement_step : Known → Statement → BoundStep
+statement_step k (include file) = nothing
+statement_step k (register quantum name size) = nothing
+statement_step k (gate d) = nothing
+statement_step k (opaque d) = nothing
+statement_step k (conditional name value inner) = nothing
+statement_step k (act it) = act_step k it
 
 -- ---- what is known
 abbrev pub act_after : Known → Action → Known
@@ -78,4 +78,4 @@ after k (conditional name value inner) = k
 after k (act it) = act_after k it
 
 abbrev pub known : List Statement → Known
-known statements = fold after fresh statements
+known statements = fold after nothing_known statements

@@ -6,12 +6,12 @@
 use Rattle.std.specs.Prelude.{◌≡◌, ℕ, List, [], ◌∷◌, Ok, codes}
 use Rattle.qasm_lexer.specs.Tokens.{lexed}
 use Rattle.qasm_lexer.specs.declared.Token.{Token}
-use Rattle.qasm_parser.specs.Spelling.{Seen, SpellsStatement}
+use Rattle.qasm_parser.specs.Spelling.{SeenExpression, SpellsStatement}
 use Rattle.qasm_parser.specs.Symbols.{symbols}
 use Rattle.qasm_parser.specs.Tree.{Definition, gate, include}
-use Rattle.gate_library.specs.Library.{gate_of}
+use Rattle.gate_library.specs.Library.{entry_gate}
 use Rattle.gate_library.specs.Listing.{Entry}
-use Rattle.qasm_check.specs.Known.{Known, fresh}
+use Rattle.qasm_check.specs.Known.{Known, nothing_known}
 use Rattle.qasm_check.specs.Steps.{after, bound_gate}
 
 unfoldable pub texts : List (List ℕ)
@@ -48,16 +48,16 @@ texts =
     ∷ []
 
 abbrev pub included : Known
-included = after fresh (include (codes "qelib1.inc"))
+included = after nothing_known (include (codes "qelib1.inc"))
 
 pub record IsSpelt (text : List ℕ) (e : Entry) : Type 0 where
   pub tokens : List Token
-  pub found : List Seen
+  pub found : List SeenExpression
   pub tree : Definition
   pub lexed : lexed text ≡ Ok tokens
   pub spelt : SpellsStatement (gate tree) (symbols text tokens) [] found
   pub name : tree.name ≡ e.name
-  pub bound : bound_gate included tree ≡ gate_of e
+  pub bound : bound_gate included tree ≡ entry_gate e
 
 abbrev pub AreSpelt : List (List ℕ) → List Entry → Type 0
 AreSpelt [] [] = Unit {0}

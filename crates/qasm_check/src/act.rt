@@ -9,7 +9,7 @@ ghost use Rattle.qasm_check.specs.Refusals.{applies_opaque, params_differ, qubit
 ghost use Rattle.qasm_check.specs.State.{state};
 ghost use Rattle.qasm_check.specs.Steps.{act_step};
 ghost use Rattle.qasm_check.specs.Verdicts.{IsStop, verdict};
-ghost use Rattle.qasm_check.specs.StepViews.{step};
+ghost use Rattle.qasm_check.specs.StepViews.{step_view};
 
 use crate::arguments::{NamedArgs, named};
 use crate::expression::{any_foreign, formulas};
@@ -140,7 +140,7 @@ pub fn application<'a>(
     known: &Known<'a>,
     apply: &'a Apply,
 ) -> Result<Step, CheckStop>
-    ensures ok { IfOk result (λ s. (verdict (state known.now) (act (applied (application_tree apply.now))) ≡ None) × (step s ≡ act_step (state known.now) (applied (application_tree apply.now)))) }
+    ensures ok { IfOk result (λ s. (verdict (state known.now) (act (applied (application_tree apply.now))) ≡ None) × (step_view s ≡ act_step (state known.now) (applied (application_tree apply.now)))) }
     ensures err { IfErr result (IsStop (verdict (state known.now) (act (applied (application_tree apply.now))))) }
 {
     let none = Indices::none(alloc);
@@ -156,7 +156,7 @@ pub fn application<'a>(
 
 /// A measure.
 pub fn measure<'a>(known: &Known<'a>, qubit: &'a Arg, bit: &'a Arg) -> Result<Step, CheckStop>
-    ensures ok { IfOk result (λ s. (verdict (state known.now) (act (measured qubit.now bit.now)) ≡ None) × (step s ≡ act_step (state known.now) (measured qubit.now bit.now))) }
+    ensures ok { IfOk result (λ s. (verdict (state known.now) (act (measured qubit.now bit.now)) ≡ None) × (step_view s ≡ act_step (state known.now) (measured qubit.now bit.now))) }
     ensures err { IfErr result (IsStop (verdict (state known.now) (act (measured qubit.now bit.now)))) }
 {
     let from = known.meaning(qubit.name.as_bytes());
@@ -183,7 +183,7 @@ pub fn measure<'a>(known: &Known<'a>, qubit: &'a Arg, bit: &'a Arg) -> Result<St
 
 /// A barrier.
 pub fn barrier<'a>(alloc: Global, known: &Known<'a>, args: &'a [Arg]) -> Result<Step, CheckStop>
-    ensures ok { IfOk result (λ s. (verdict (state known.now) (act (barred args.now)) ≡ None) × (step s ≡ act_step (state known.now) (barred args.now))) }
+    ensures ok { IfOk result (λ s. (verdict (state known.now) (act (barred args.now)) ≡ None) × (step_view s ≡ act_step (state known.now) (barred args.now))) }
     ensures err { IfErr result (IsStop (verdict (state known.now) (act (barred args.now)))) }
 {
     let named = named(alloc, known, args)?;

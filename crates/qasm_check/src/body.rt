@@ -11,7 +11,7 @@ ghost use Rattle.qasm_check.specs.Refusals.{gate_taken, name_taken_by, repeats_n
 ghost use Rattle.qasm_check.specs.State.{state};
 ghost use Rattle.qasm_check.specs.Steps.{bound_gate, item as bound_item};
 ghost use Rattle.qasm_check.specs.Verdicts.{IsStop, verdict};
-ghost use Rattle.gate_library.specs.Views.{gate as gate_view, item as item_view};
+ghost use Rattle.gate_library.specs.Views.{gate_view, item_view};
 
 use crate::act::{applies_opaque, number_of, params_differ, qubits_differ};
 use crate::expression::{any_foreign, formulas};

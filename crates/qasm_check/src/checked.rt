@@ -1,9 +1,9 @@
 //! Programs whose names are bound.
 
 ghost use Rattle.std.specs.Prelude.{◌<◌, ◌≡◌, ◌^◌, length, map};
-ghost use Rattle.gate_library.specs.Views.{gate};
+ghost use Rattle.gate_library.specs.Views.{gate_view};
 ghost use Rattle.qasm_check.specs.Sound.{IsSound};
-ghost use Rattle.qasm_check.specs.StepViews.{step};
+ghost use Rattle.qasm_check.specs.StepViews.{step_view};
 
 use crate::register::ClassicalRegister;
 use crate::statement::Step;
@@ -18,7 +18,7 @@ pub struct Checked {
     wires: u32,
     bits: u32,
     registers: Vec<ClassicalRegister>,
-    pub ghost sound: { IsSound (record { gates = map gate gates.items; steps = map step steps.items; wires = wires; bits = bits; registers = registers.items }) },
+    pub ghost sound: { IsSound (record { gates = map gate_view gates.items; steps = map step_view steps.items; wires = wires; bits = bits; registers = registers.items }) },
     pub ghost few_steps: { length steps.items < 2 ^ 32 },
     pub ghost few_registers: { length registers.items < 2 ^ 32 },
 }
@@ -26,7 +26,7 @@ pub struct Checked {
 impl Checked {
     ghost use Rattle.std.specs.Prelude.{slice_get, Some};
     ghost use Rattle.qasm_check.specs.Bound.{barriers};
-    ghost use Rattle.qasm_check.specs.CheckedView.{program};
+    ghost use Rattle.qasm_check.specs.CheckedView.{program_view};
 
     /// A program of these parts.
     pub(crate) fn new(
@@ -36,10 +36,10 @@ impl Checked {
         bits: u32,
         registers: Vec<ClassicalRegister>,
     ) -> Checked
-        requires sound { IsSound (record { gates = map gate gates.items; steps = map step steps.items; wires = wires; bits = bits; registers = registers.items }) }
+        requires sound { IsSound (record { gates = map gate_view gates.items; steps = map step_view steps.items; wires = wires; bits = bits; registers = registers.items }) }
         requires few_steps { length steps.items < 2 ^ 32 }
         requires few_registers { length registers.items < 2 ^ 32 }
-        ensures value { program result ≡ record { gates = map gate gates.items; steps = map step steps.items; wires = wires; bits = bits; registers = registers.items } }
+        ensures value { program_view result ≡ record { gates = map gate_view gates.items; steps = map step_view steps.items; wires = wires; bits = bits; registers = registers.items } }
     {
         Checked {
             gates,
@@ -52,21 +52,21 @@ impl Checked {
 
     /// How many wires there are: the qubits of all registers in order of declaration, side by side.
     pub fn wires(&self) -> u32
-        ensures value { result ≡ (program self.now).wires }
+        ensures value { result ≡ (program_view self.now).wires }
     {
         self.wires
     }
 
     /// How many classical bits there are.
     pub fn bits(&self) -> u32
-        ensures value { result ≡ (program self.now).bits }
+        ensures value { result ≡ (program_view self.now).bits }
     {
         self.bits
     }
 
     /// How many barriers stand outside bodies.
     pub fn barriers(&self) -> u64
-        ensures value { result ≡ barriers (program self.now) }
+        ensures value { result ≡ barriers (program_view self.now) }
     {
         let mut count = 0u64;
         'steps: for it in &self.steps {
@@ -79,15 +79,15 @@ impl Checked {
 
     /// How many classical registers there are.
     pub fn registers(&self) -> u32
-        ensures value { result ≡ length (program self.now).registers }
+        ensures value { result ≡ length (program_view self.now).registers }
     {
         self.registers.len() as u32
     }
 
     /// The name and the size of the k-th classical register, from 0.
     pub fn register(&self, k: u32) -> (&[u8], u32)
-        requires within { k < length (program self.now).registers }
-        ensures register { slice_get (program self.now).registers k ≡ Some (record { name = result.0.now; size = result.1 }) }
+        requires within { k < length (program_view self.now).registers }
+        ensures register { slice_get (program_view self.now).registers k ≡ Some (record { name = result.0.now; size = result.1 }) }
     {
         let register = &self.registers[k as usize];
         (register.name.as_bytes(), register.size)
@@ -96,21 +96,21 @@ impl Checked {
     /// The gates by their numbers: `U`, `CX`, those of the tables, then those that the program declares, in order. A gate's
     /// body has only lesser numbers.
     pub fn gates(&self) -> &[BoundGate]
-        ensures value { map gate result.now ≡ (program self.now).gates }
+        ensures value { map gate_view result.now ≡ (program_view self.now).gates }
     {
         &self.gates
     }
 
     /// What each statement does.
     pub fn steps(&self) -> &[Step]
-        ensures value { map step result.now ≡ (program self.now).steps }
+        ensures value { map step_view result.now ≡ (program_view self.now).steps }
     {
         &self.steps
     }
 
     /// The classical registers in order of declaration.
     pub fn into_registers(self) -> Vec<ClassicalRegister>
-        ensures value { result.items ≡ (program self).registers }
+        ensures value { result.items ≡ (program_view self).registers }
     {
         self.registers
     }

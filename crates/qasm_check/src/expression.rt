@@ -4,7 +4,7 @@ ghost use Rattle.std.specs.Prelude.{◌≡◌, IfOk, map, not};
 ghost use Rattle.std.specs.List.{list_any};
 ghost use Rattle.qasm_parser.specs.Tree.{expression};
 ghost use Rattle.qasm_check.specs.Steps.{formula as bound_formula};
-ghost use Rattle.gate_library.specs.Views.{formula as formula_view};
+ghost use Rattle.gate_library.specs.Views.{formula_view};
 ghost use Rattle.qasm_check.specs.Arguments.{knows as knows_all};
 
 use crate::indices::Indices;

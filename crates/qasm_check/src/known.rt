@@ -5,8 +5,8 @@ ghost use Rattle.std.specs.List.{list_any};
 ghost use Rattle.gate_library.specs.Gates.{gate_at, gate_params, gate_qubits, is_opaque};
 ghost use Rattle.gate_library.specs.Library.{standard_names};
 ghost use Rattle.gate_library.specs.Operands.{wires_of};
-ghost use Rattle.gate_library.specs.Views.{gate as gate_view};
-ghost use Rattle.qasm_check.specs.Known.{fresh, meaning, with_gate, with_measured, with_register};
+ghost use Rattle.gate_library.specs.Views.{gate_view};
+ghost use Rattle.qasm_check.specs.Known.{nothing_known, meaning, with_gate, with_measured, with_register};
 ghost use Rattle.qasm_check.specs.Meanings.{names_gate};
 ghost use Rattle.qasm_check.specs.State.{state, tail};
 
@@ -41,7 +41,7 @@ pub struct Known<'a> {
 impl<'a> Known<'a> {
     /// What is known at a program's beginning.
     pub fn new(alloc: Global) -> Result<Known<'a>, AllocError>
-        ensures ok { IfOk result (λ k. state k ≡ fresh) }
+        ensures ok { IfOk result (λ k. state k ≡ nothing_known) }
     {
         Ok(Known {
             declared: BTreeMap::new(alloc),

@@ -1,7 +1,7 @@
 //! What holds of every tree, as functions whose contracts are the laws.
 
 ghost use Rattle.std.specs.Prelude.{◌≡◌, ◌⊎◌, ◌++◌, length};
-ghost use Rattle.gate_library.specs.Listing.{added, standard};
+ghost use Rattle.gate_library.specs.Listing.{added_gates, standard};
 ghost use Rattle.qasm_parser.specs.Tree.{Tree};
 ghost use Rattle.qasm_check.specs.Checking.{IsCheckFault, IsCheckRefused, IsFineTree, bound};
 ghost use Rattle.qasm_check.specs.Sound.{IsSound};
@@ -22,7 +22,7 @@ pub fn checked_or_refused()
 
 /// Each gate of the tables, written as a program would define it, spells a definition that is bound to the table's gate.
 pub fn listing_is_spelt()
-    ensures spelt { AreSpelt texts (standard ++ added) }
+    ensures spelt { AreSpelt texts (standard ++ added_gates) }
 {}
 
 /// An accepted tree has no fault, so only want of memory is told of it.

@@ -3,14 +3,14 @@
 ghost use Rattle.std.specs.Prelude.{◌≡◌, ◌<◌, ◌++◌, ◌∷◌, ◌^◌, [], None, All, IfOk, IfErr, OnOk, length, map};
 ghost use Rattle.std.specs.List.{filter_map};
 ghost use Rattle.std.specs.Option.{ForSome, option_to_list};
-ghost use Rattle.qasm_parser.specs.Tree.{program as tree_of, statement as tree};
-ghost use Rattle.qasm_check.specs.Checking.{AllFine, IsCheckFault, IsFaultIn, IsFineTree, bits_of, bound, bound_of};
-ghost use Rattle.qasm_check.specs.CheckedView.{program as bound_program};
-ghost use Rattle.qasm_check.specs.Known.{fresh};
+ghost use Rattle.qasm_parser.specs.Tree.{program_tree as tree_of, statement as tree};
+ghost use Rattle.qasm_check.specs.Checking.{AllFine, IsCheckFault, IsFaultIn, IsFineTree, declared_bits, bound, bound_of};
+ghost use Rattle.qasm_check.specs.CheckedView.{program_view as bound_program};
+ghost use Rattle.qasm_check.specs.Known.{nothing_known};
 ghost use Rattle.qasm_check.specs.Sound.{IsSound};
 ghost use Rattle.qasm_check.specs.State.{state};
-ghost use Rattle.qasm_check.specs.StepViews.{step};
-ghost use Rattle.qasm_check.specs.Steps.{after, step as step_of};
+ghost use Rattle.qasm_check.specs.StepViews.{step_view};
+ghost use Rattle.qasm_check.specs.Steps.{after, statement_step as step_of};
 ghost use Rattle.qasm_check.specs.Verdicts.{IsStop, check_fault, verdict};
 
 use crate::checked::Checked;
@@ -24,8 +24,8 @@ use std::alloc::{AllocError, Global};
 
 /// The classical register that a statement declares, where it does. The name is the statement's own.
 fn bits_of(statement: Stmt) -> Option<ClassicalRegister>
-    requires { ForSome (bits_of (tree statement)) (λ b. b.size < 2 ^ 32) }
-    ensures { result ≡ bits_of (tree statement) }
+    requires { ForSome (declared_bits (tree statement)) (λ b. b.size < 2 ^ 32) }
+    ensures { result ≡ declared_bits (tree statement) }
 {
     match statement {
         Stmt::Register {
@@ -60,8 +60,8 @@ fn add_bits(
 
 /// The classical registers that statements declare, in order.
 fn registers_of(alloc: Global, statements: Vec<Stmt>) -> Result<Vec<ClassicalRegister>, AllocError>
-    requires { All (λ s. ForSome (bits_of (tree s)) (λ b. b.size < 2 ^ 32)) statements.items }
-    ensures { IfOk result (λ v. v.items ≡ filter_map bits_of (map tree statements.items)) }
+    requires { All (λ s. ForSome (declared_bits (tree s)) (λ b. b.size < 2 ^ 32)) statements.items }
+    ensures { IfOk result (λ v. v.items ≡ filter_map declared_bits (map tree statements.items)) }
 {
     let mut registers = Vec::new(alloc);
     'statements: for it in statements {
@@ -79,7 +79,7 @@ fn add<'a>(
 ) -> Result<(), CheckStop>
     ensures fine { OnOk result (verdict (state known.old) (tree it.now) ≡ None) }
     ensures known { OnOk result (state known.new ≡ after (state known.old) (tree it.now)) }
-    ensures steps { OnOk result (map step steps.new.items ≡ map step steps.old.items ++ step_of (state known.old) (tree it.now) ∷ []) }
+    ensures steps { OnOk result (map step_view steps.new.items ≡ map step_view steps.old.items ++ step_of (state known.old) (tree it.now) ∷ []) }
     ensures err { IfErr result (IsStop (verdict (state known.old) (tree it.now))) }
 {
     let step = statement(alloc, known, it)?;
@@ -100,7 +100,7 @@ fn fault(stop: CheckStop, statement: u32) -> CheckFault
 /// The checked program of these statements.
 fn checked(alloc: Global, statements: Vec<Stmt>) -> Result<Checked, CheckFault>
     requires { length statements.items < 2 ^ 32 }
-    ensures ok { IfOk result (λ c. AllFine fresh (map tree statements.items) × (bound_program c ≡ bound_of (map tree statements.items))) }
+    ensures ok { IfOk result (λ c. AllFine nothing_known (map tree statements.items) × (bound_program c ≡ bound_of (map tree statements.items))) }
     ensures err { IfErr result (IsFaultIn (map tree statements.items)) }
 {
     let mut known = Known::new(alloc)?;

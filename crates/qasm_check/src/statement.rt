@@ -7,8 +7,8 @@ ghost use Rattle.gate_library.specs.Names.{is_one_of};
 ghost use Rattle.qasm_parser.specs.Tree.{act, gate as declares, include as includes, measure as measures, opaque as leaves_opaque, register as registers, statement as tree};
 ghost use Rattle.qasm_check.specs.Bodies.{declaration};
 ghost use Rattle.qasm_check.specs.State.{state};
-ghost use Rattle.qasm_check.specs.StepViews.{step};
-ghost use Rattle.qasm_check.specs.Steps.{act_step, after, nothing, step as step_of};
+ghost use Rattle.qasm_check.specs.StepViews.{step_view};
+ghost use Rattle.qasm_check.specs.Steps.{act_step, after, nothing, statement_step as step_of};
 ghost use Rattle.qasm_check.specs.Verdicts.{IsStop, verdict};
 
 use crate::act::{application, barrier, measure};
@@ -51,7 +51,7 @@ impl Step {
 
     /// Whether it is a barrier.
     pub fn is_barrier(&self) -> bool
-        ensures value { result ≡ is_barrier (step self.now) }
+        ensures value { result ≡ is_barrier (step_view self.now) }
     {
         match self {
             Step::Barrier { operands: _ } => true,
@@ -75,7 +75,7 @@ fn is_library(file: &[u8]) -> bool
 
 /// An include.
 fn include(known: &mut Known<'_>, file: &Name) -> Result<Step, CheckStop>
-    ensures ok { IfOk result (λ s. (verdict (state known.old) (includes file.now) ≡ None) × (step s ≡ nothing) × (state known.new ≡ after (state known.old) (includes file.now))) }
+    ensures ok { IfOk result (λ s. (verdict (state known.old) (includes file.now) ≡ None) × (step_view s ≡ nothing) × (state known.new ≡ after (state known.old) (includes file.now))) }
     ensures err { IfErr result (IsStop (verdict (state known.old) (includes file.now))) }
 {
     if !is_library(file.as_bytes()) || known.is_included() {
@@ -109,7 +109,7 @@ fn register<'a>(
     name: &'a Name,
     size: u64,
 ) -> Result<Step, CheckStop>
-    ensures ok { IfOk result (λ s. (verdict (state known.old) (registers quantum name.now size) ≡ None) × (step s ≡ nothing) × (state known.new ≡ after (state known.old) (registers quantum name.now size))) }
+    ensures ok { IfOk result (λ s. (verdict (state known.old) (registers quantum name.now size) ≡ None) × (step_view s ≡ nothing) × (state known.new ≡ after (state known.old) (registers quantum name.now size))) }
     ensures err { IfErr result (IsStop (verdict (state known.old) (registers quantum name.now size))) }
 {
     let name = name.as_bytes();
@@ -135,7 +135,7 @@ fn declare<'a>(
     known: &mut Known<'a>,
     definition: &'a GateDef,
 ) -> Result<Step, CheckStop>
-    ensures ok { IfOk result (λ s. (verdict (state known.old) (declares (declaration definition.now)) ≡ None) × (step s ≡ nothing) × (state known.new ≡ after (state known.old) (declares (declaration definition.now)))) }
+    ensures ok { IfOk result (λ s. (verdict (state known.old) (declares (declaration definition.now)) ≡ None) × (step_view s ≡ nothing) × (state known.new ≡ after (state known.old) (declares (declaration definition.now)))) }
     ensures err { IfErr result (IsStop (verdict (state known.old) (declares (declaration definition.now)))) }
 {
     let gate = gate(alloc, known, definition)?;
@@ -149,7 +149,7 @@ fn declare_opaque<'a>(
     known: &mut Known<'a>,
     definition: &'a GateDef,
 ) -> Result<Step, CheckStop>
-    ensures ok { IfOk result (λ s. (verdict (state known.old) (leaves_opaque (declaration definition.now)) ≡ None) × (step s ≡ nothing) × (state known.new ≡ after (state known.old) (leaves_opaque (declaration definition.now)))) }
+    ensures ok { IfOk result (λ s. (verdict (state known.old) (leaves_opaque (declaration definition.now)) ≡ None) × (step_view s ≡ nothing) × (state known.new ≡ after (state known.old) (leaves_opaque (declaration definition.now)))) }
     ensures err { IfErr result (IsStop (verdict (state known.old) (leaves_opaque (declaration definition.now)))) }
 {
     let gate = opaque(alloc, known, definition)?;
@@ -159,7 +159,7 @@ fn declare_opaque<'a>(
 
 /// A measure.
 fn measured<'a>(known: &mut Known<'a>, qubit: &'a Arg, bit: &'a Arg) -> Result<Step, CheckStop>
-    ensures ok { IfOk result (λ s. (verdict (state known.old) (act (measures qubit.now bit.now)) ≡ None) × (step s ≡ act_step (state known.old) (measures qubit.now bit.now)) × (state known.new ≡ after (state known.old) (act (measures qubit.now bit.now)))) }
+    ensures ok { IfOk result (λ s. (verdict (state known.old) (act (measures qubit.now bit.now)) ≡ None) × (step_view s ≡ act_step (state known.old) (measures qubit.now bit.now)) × (state known.new ≡ after (state known.old) (act (measures qubit.now bit.now)))) }
     ensures err { IfErr result (IsStop (verdict (state known.old) (act (measures qubit.now bit.now)))) }
 {
     let step = measure(known, qubit, bit)?;
@@ -176,7 +176,7 @@ pub fn statement<'a>(
     known: &mut Known<'a>,
     statement: &'a Stmt,
 ) -> Result<Step, CheckStop>
-    ensures ok { IfOk result (λ s. (verdict (state known.old) (tree statement.now) ≡ None) × (step s ≡ step_of (state known.old) (tree statement.now)) × (state known.new ≡ after (state known.old) (tree statement.now))) }
+    ensures ok { IfOk result (λ s. (verdict (state known.old) (tree statement.now) ≡ None) × (step_view s ≡ step_of (state known.old) (tree statement.now)) × (state known.new ≡ after (state known.old) (tree statement.now))) }
     ensures err { IfErr result (IsStop (verdict (state known.old) (tree statement.now))) }
 {
     match statement {

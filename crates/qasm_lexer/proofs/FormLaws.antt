@@ -12,7 +12,7 @@ use Rattle.std.proofs.lemmas.Bool.Decides.{Decides-eqb, nat_tests}
 use Rattle.std.proofs.lemmas.List.{drop-drop, take-append-drop}
 use Rattle.std.proofs.lemmas.List.Folds.{length-prefix_len}
 use Rattle.std.proofs.Math.Seq.{drop-append-add, drop-append_seam}
-use Rattle.qasm_lexer.specs.Forms.{Bytes, Each, IsExponent, IsLexeme, IsOfKind, IsPlusMinus, IsPower, OneOf, in_line, is_quoted, is_space, is_word_byte, signs}
+use Rattle.qasm_lexer.specs.Forms.{Bytes, Each, IsExponent, IsLexeme, IsOfKind, IsPlusMinus, IsPower, OneOf, is_no_break, is_quoted, is_space, is_word_byte, signs}
 use Rattle.qasm_lexer.specs.Numbers.{begins_with, exponent_sign_len}
 use Rattle.qasm_lexer.specs.Lexemes.{begins_number, exponent_len, form_len, is_sign, mark_len, number_len, quoted_len, real_len, slash_len}
 use Rattle.qasm_lexer.specs.declared.Kind.{Kind}
@@ -52,9 +52,9 @@ space-fits : (b : ℕ) (more : Bytes) → is_space b ≡ true → 1 ≤ form_len
 unfolding form_len
 space-fits b more h = rw h (omega arith)
 
-comment-fits : (line more : Bytes) → Each in_line line → length (47 ∷ 47 ∷ line) ≤ form_len (47 ∷ 47 ∷ (line ++ more))
+comment-fits : (line more : Bytes) → Each is_no_break line → length (47 ∷ 47 ∷ line) ≤ form_len (47 ∷ 47 ∷ (line ++ more))
 unfolding form_len
-comment-fits line more h = let fits = each-fits in_line line more h in omega arith
+comment-fits line more h = let fits = each-fits is_no_break line more h in omega arith
 
 word-fits : (b : ℕ) (w more : Bytes) → is_ascii_alphabetic b ≡ true → Each is_word_byte w → length (b ∷ w) ≤ form_len (b ∷ (w ++ more))
 unfolding form_len
@@ -184,7 +184,7 @@ least_mark false n h = omega arith
 signs-fit : (more : Bytes) → AllByRecursion (λ w. length w ≤ form_len (w ++ more)) signs
 unfolding form_len
 signs-fit more =
-    (omega arith, (omega arith, (omega arith, (omega arith, (omega arith, (omega arith, (omega arith, (omega arith, (omega arith, (least_mark (begins_with 62 more) 2 (omega arith), (omega arith, (least_mark (begins_with 47 more) (1 + prefix_len in_line more) (omega arith), (omega arith, (omega arith, (omega arith, tt)))))))))))))))
+    (omega arith, (omega arith, (omega arith, (omega arith, (omega arith, (omega arith, (omega arith, (omega arith, (omega arith, (least_mark (begins_with 62 more) 2 (omega arith), (omega arith, (least_mark (begins_with 47 more) (1 + prefix_len is_no_break more) (omega arith), (omega arith, (omega arith, (omega arith, tt)))))))))))))))
 
 -- ---- all of them
 pub lexeme-fits : (w more : Bytes) → IsLexeme w → length w ≤ form_len (w ++ more)
@@ -471,17 +471,17 @@ quoted-found t some =
 slash-found : (t : Bytes) → Found (47 ∷ t) (slash_len t)
 slash-found t = by_next (begins_with 47 t) refl
   where
-    by_next : (next : Bool) → begins_with 47 t ≡ next → Found (47 ∷ t) (if next then 1 + prefix_len in_line t else 1)
+    by_next : (next : Bool) → begins_with 47 t ≡ next → Found (47 ∷ t) (if next then 1 + prefix_len is_no_break t else 1)
     by_next false e = a_sign (codes "/") t 1 (inr (inr (inr (inr (inr (inr (inr (inr (inr (inr (inr (inl refl)))))))))))) refl
     by_next true e =
-        let s = split in_line (drop 1 t) in
+        let s = split is_no_break (drop 1 t) in
         let is : t ≡ 47 ∷ drop 1 t = begins-cons 47 t e in
         record {
           word = 47 ∷ 47 ∷ s.front;
           rest = s.rest;
           text = ap (λ (z : Bytes). 47 ∷ z) (is ∙ ap (λ (z : Bytes). 47 ∷ z) s.text);
           lexeme = inl (inr (s.front, refl, s.each));
-          size = let all : prefix_len in_line t ≡ 1 + prefix_len in_line (drop 1 t) = ap (λ (z : Bytes). prefix_len in_line z) is in
+          size = let all : prefix_len is_no_break t ≡ 1 + prefix_len is_no_break (drop 1 t) = ap (λ (z : Bytes). prefix_len is_no_break z) is in
               let line = s.size in omega arith;
         }
 

@@ -13,7 +13,7 @@ use Rattle.std.proofs.lemmas.Bool.{or_cases}
 use Rattle.std.proofs.lemmas.Bool.Decides.{nat_tests}
 use Rattle.std.proofs.lemmas.Slice.Eq.{bytes_eq-Decides}
 use Rattle.std.proofs.Math.Seq.{drop-append_seam, drop-length}
-use Rattle.qasm_lexer.specs.Forms.{Bytes, Each, IsAllowed, IsBlank, IsLexeme, IsNumber, IsOfKind, OneOf, capitals, is_space, signs}
+use Rattle.qasm_lexer.specs.Forms.{Bytes, Each, IsAllowedWord, IsBlank, IsLexeme, IsNumber, IsOfKind, OneOf, capitals, is_space, signs}
 use Rattle.qasm_lexer.specs.Numbers.{has_point, has_value}
 use Rattle.qasm_lexer.specs.Lexemes.{begins_number, is_blank, is_capital_word, is_number, is_out_of_range, is_stray, kind_of}
 use Rattle.qasm_lexer.specs.Tokens.{HasValue}
@@ -189,7 +189,7 @@ stray-by : (b : ℕ) (w : Bytes) (upper known : Bool) → is_ascii_uppercase b �
     → is_stray (b ∷ w) ≡ (upper && not known)
 stray-by b w upper known e f = rw (e, f) refl
 
-pub allowed-is : (w : Bytes) → IsAllowed w → is_stray w ≡ false
+pub allowed-is : (w : Bytes) → IsAllowedWord w → is_stray w ≡ false
 allowed-is [] h = refl
 allowed-is (b ∷ w) h = by_tests (is_ascii_uppercase b) (is_capital_word (b ∷ w)) refl refl
   where
@@ -199,7 +199,7 @@ allowed-is (b ∷ w) h = by_tests (is_ascii_uppercase b) (is_capital_word (b ∷
     by_tests false true e f = stray-by b w false true e f
     by_tests false false e f = stray-by b w false false e f
 
-pub allowed-from : (w : Bytes) → is_stray w ≡ false → IsAllowed w
+pub allowed-from : (w : Bytes) → is_stray w ≡ false → IsAllowedWord w
 allowed-from [] h = tt
 allowed-from (b ∷ w) h = by_test (is_capital_word (b ∷ w)) refl
   where
@@ -210,9 +210,9 @@ allowed-from (b ∷ w) h = by_test (is_capital_word (b ∷ w)) refl
 no_capital : (b : ℕ) → (is_ascii_digit b || (b == 46)) ≡ true → is_ascii_uppercase b ≡ false
 no_capital b h = grind (arith, nat_tests)
 
-number-begins-allowed : (w : Bytes) → is_number w ≡ true → IsAllowed w
+number-begins-allowed : (w : Bytes) → is_number w ≡ true → IsAllowedWord w
 number-begins-allowed [] h = tt
 number-begins-allowed (b ∷ w) h = λ e. absurd (let f = no_capital b h in cc)
 
-pub number-allowed : (w : Bytes) → IsNumber w → IsAllowed w
+pub number-allowed : (w : Bytes) → IsNumber w → IsAllowedWord w
 number-allowed w h = number-begins-allowed w (number-is w h).0

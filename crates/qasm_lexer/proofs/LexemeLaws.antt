@@ -4,7 +4,7 @@
 --   no_lexeme        where none can be taken
 use Rattle.std.proofs.Common.{◌≡◌, ◌⊎◌, inl, inr, ℕ, zero, suc, ◌≤◌, Bool, true, false, ◌++◌, if◌then◌else◌, refl, sym, ap, ◌∙◌, subst, arith, length, take, drop}
 use Rattle.std.proofs.Math.Seq.{drop-append_seam, take-append_seam}
-use Rattle.qasm_lexer.specs.Forms.{Bytes, IsAllowed}
+use Rattle.qasm_lexer.specs.Forms.{Bytes, IsAllowedWord}
 use Rattle.qasm_lexer.specs.Lexemes.{form_len, is_stray, lexeme_len}
 use Rattle.qasm_lexer.specs.Tokens.{IsLongest, IsStuck}
 use Rattle.qasm_lexer.proofs.FormLaws.{Found, form-found, lexeme-fits}
@@ -30,7 +30,7 @@ front-is w t rest e = ap (λ (z : Bytes). take (length w) z) e ∙ take-append_s
 pub rest-is : (w t rest : Bytes) → t ≡ w ++ rest → drop (length w) t ≡ rest
 rest-is w t rest e = ap (λ (z : Bytes). drop (length w) z) e ∙ drop-append_seam w rest
 
-pub longest-len : (w t rest : Bytes) → IsLongest w t rest → IsAllowed w → lexeme_len t ≡ length w
+pub longest-len : (w t rest : Bytes) → IsLongest w t rest → IsAllowedWord w → lexeme_len t ≡ length w
 longest-len w t rest h allowed =
     lexeme_len-by t (length w) false (longest-form w t rest h) (ap (λ (z : Bytes). is_stray z) (front-is w t rest h.text) ∙ allowed-is w allowed)
 
@@ -38,7 +38,7 @@ pub record Taken (t : Bytes) : Type 0 where
   pub word : Bytes
   pub rest : Bytes
   pub longest : IsLongest word t rest
-  pub allowed : IsAllowed word
+  pub allowed : IsAllowedWord word
 
 pub record Nothing (t : Bytes) : Type 0 where
   pub none : lexeme_len t ≡ 0

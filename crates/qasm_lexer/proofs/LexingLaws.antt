@@ -12,7 +12,7 @@ use Rattle.std.proofs.lemmas.List.{drop-drop, length-drop}
 use Rattle.std.proofs.lemmas.List.Elements.{All-cons, All-nil}
 use Rattle.std.proofs.Math.Nat.{le_of_lt}
 use Rattle.std.proofs.Math.Seq.{take-append_seam}
-use Rattle.qasm_lexer.specs.Forms.{Bytes, IsAllowed, IsBlank, IsLexeme, IsNumber, IsOfKind}
+use Rattle.qasm_lexer.specs.Forms.{Bytes, IsAllowedWord, IsBlank, IsLexeme, IsNumber, IsOfKind}
 use Rattle.qasm_lexer.specs.Numbers.{has_value}
 use Rattle.qasm_lexer.specs.Lexemes.{is_blank, is_out_of_range, kind_of}
 use Rattle.qasm_lexer.specs.Lexed.{lexed, lexed_from, then_more, token_at, with_lexeme}
@@ -22,7 +22,7 @@ use Rattle.qasm_lexer.specs.declared.Kind.TheVariants.{Whole, Real}
 use Rattle.qasm_lexer.specs.declared.Token.{Token}
 use Rattle.qasm_lexer.specs.declared.LexFault.{LexFault}
 use Rattle.qasm_lexer.specs.declared.LexFault.TheVariants.{BadByte, Number, NoMemory}
-use Rattle.qasm_lexer.specs.Steps.{joined}
+use Rattle.qasm_lexer.specs.Steps.{joined_tokens}
 use Rattle.qasm_lexer.proofs.TokenLaws.{lexed_from-bad, lexed_from-lexeme, lexed_from-nil}
 use Rattle.qasm_lexer.proofs.KindLaws.{blank-is, blank-kept, kept-from, kind-is, lexeme-some, number-allowed, number-is, number-out, range-false, range-true}
 use Rattle.qasm_lexer.proofs.LexemeLaws.{Nothing, Taken, longest-len, next, no_lexeme, rest-is}
@@ -31,7 +31,7 @@ use Rattle.qasm_lexer.proofs.LexemeLaws.{Nothing, Taken, longest-len, next, no_l
 after : (w t mid : Bytes) → IsLongest w t mid → length t ≡ length w + length mid
 after w t mid h = ap length h.text ∙ length-append w mid
 
-step : (w t mid : Bytes) (place : ℕ) → IsLongest w t mid → IsAllowed w → lexed_from place t ≡ with_lexeme place w (lexed_from (place + length w) mid)
+step : (w t mid : Bytes) (place : ℕ) → IsLongest w t mid → IsAllowedWord w → lexed_from place t ≡ with_lexeme place w (lexed_from (place + length w) mid)
 step w t mid place h allowed =
     lexed_from-lexeme t place (length w) (longest-len w t mid h allowed) (lexeme-some w h.lexeme)
     ∙ ap (λ (z : Bytes). with_lexeme place z (lexed_from (place + length w) (drop (length w) t)))
@@ -65,25 +65,25 @@ Told start t (Err (Number place)) = (ws : List Bytes) × (w : Bytes) × (rest : 
     × LeadsFrom start ws t place rest × IsLongest w rest end × IsNumber w × (has_value w ≡ false)
 Told start t (Err NoMemory) = ⊥
 
-leads-more : (start : ℕ) (w t mid : Bytes) (ws : List Bytes) (place : ℕ) (rest : Bytes) → IsLongest w t mid → IsAllowed w → HasValue w
+leads-more : (start : ℕ) (w t mid : Bytes) (ws : List Bytes) (place : ℕ) (rest : Bytes) → IsLongest w t mid → IsAllowedWord w → HasValue w
     → LeadsFrom (start + length w) ws mid place rest → LeadsFrom start (w ∷ ws) t place rest
 leads-more start w t mid ws place rest h allowed kept l =
     let size = after w t mid h in
     let reached = l.reached in
     record { lexemes = (mid, h, allowed, l.lexemes); kept = (kept, l.kept); reached = omega arith }
 
-fault-more : (start : ℕ) (w t mid : Bytes) (e : LexFault) → IsLongest w t mid → IsAllowed w → HasValue w → Told (start + length w) mid (Err e) → Told start t (Err e)
+fault-more : (start : ℕ) (w t mid : Bytes) (e : LexFault) → IsLongest w t mid → IsAllowedWord w → HasValue w → Told (start + length w) mid (Err e) → Told start t (Err e)
 fault-more start w t mid (BadByte place) h allowed kept (ws, rest, l, some, stuck) =
     (w ∷ ws, rest, leads-more start w t mid ws place rest h allowed kept l, some, stuck)
 fault-more start w t mid (Number place) h allowed kept (ws, v, rest, end, l, longest, number, none) =
     (w ∷ ws, v, rest, end, leads-more start w t mid ws place rest h allowed kept l, longest, number, none)
 fault-more start w t mid NoMemory h allowed kept told = told
 
-blank-more : (start : ℕ) (w t mid : Bytes) (r : Result (List Token) LexFault) → IsLongest w t mid → IsAllowed w → IsBlank w → Told (start + length w) mid r → Told start t r
+blank-more : (start : ℕ) (w t mid : Bytes) (r : Result (List Token) LexFault) → IsLongest w t mid → IsAllowedWord w → IsBlank w → Told (start + length w) mid r → Told start t r
 blank-more start w t mid (Ok ks) h allowed blank (ws, lexemes, tokens) = (w ∷ ws, (mid, h, allowed, lexemes), inl (blank, tokens))
 blank-more start w t mid (Err e) h allowed blank told = fault-more start w t mid e h allowed (blank-kept w blank) told
 
-token-more : (start : ℕ) (kind : Kind) (w t mid : Bytes) (r : Result (List Token) LexFault) → IsLongest w t mid → IsAllowed w → IsOfKind kind w → HasValue w
+token-more : (start : ℕ) (kind : Kind) (w t mid : Bytes) (r : Result (List Token) LexFault) → IsLongest w t mid → IsAllowedWord w → IsOfKind kind w → HasValue w
     → Told (start + length w) mid r → Told start t (then_more (token_at start w) r)
 token-more start kind w t mid (Ok ks) h allowed is kept (ws, lexemes, tokens) =
     (w ∷ ws, (mid, h, allowed, lexemes), inr (kind, ks, is, kept, ap (λ (k : Token). k ∷ ks) (same-token kind w start (kind-is kind w is).1), tokens))
@@ -92,7 +92,7 @@ token-more start kind w t mid (Err e) h allowed is kept told = fault-more start 
 here : (start : ℕ) (t : Bytes) → LeadsFrom start [] t start t
 here start t = record { lexemes = refl; kept = tt; reached = refl }
 
-taken : (start : ℕ) (w t mid : Bytes) (r : Result (List Token) LexFault) → IsLongest w t mid → IsAllowed w → IsLexeme w
+taken : (start : ℕ) (w t mid : Bytes) (r : Result (List Token) LexFault) → IsLongest w t mid → IsAllowedWord w → IsLexeme w
     → Told (start + length w) mid r → Told start t (with_lexeme start w r)
 taken start w t mid r h allowed (inl blank) told = subst (λ x. Told start t x) (sym (with-blank w start r blank)) (blank-more start w t mid r h allowed blank told)
 taken start w t mid r h allowed (inr (kind, is)) told = by_test (is_out_of_range w) refl
@@ -213,7 +213,7 @@ token-bytes t w mid place kind e =
     let gap : place + length w - place ≡ length w = omega arith in
     ap (λ n. take n (drop place t)) gap ∙ ap (λ (z : Bytes). take (length w) z) e ∙ take-append_seam w mid
 
-token-of : (t w mid : Bytes) (place : ℕ) (kind : Kind) → drop place t ≡ w ++ mid → 0 < length w → IsOfKind kind w → IsAllowed w → HasValue w
+token-of : (t w mid : Bytes) (place : ℕ) (kind : Kind) → drop place t ≡ w ++ mid → 0 < length w → IsOfKind kind w → IsAllowedWord w → HasValue w
     → IsTokenOf t (token kind place w)
 token-of t w mid place kind e some is allowed kept =
     let left = ap length e ∙ length-append w mid in
@@ -223,7 +223,7 @@ token-of t w mid place kind e some is allowed kept =
       ordered = omega arith;
       within = omega arith;
       form = subst (λ (z : Bytes). IsOfKind kind z) same is;
-      allowed = subst (λ (z : Bytes). IsAllowed z) same allowed;
+      allowed = subst (λ (z : Bytes). IsAllowedWord z) same allowed;
       kept = subst (λ (z : Bytes). HasValue z) same kept;
     }
 
@@ -266,6 +266,6 @@ number_token t k h number = record { ordered = le_of_lt h.ordered; within = h.wi
     by_kind (inr e) = inr (subst (λ (kind : Kind). IsOfKind kind (bytes_of t k)) e h.form)
 
 -- ---- a fault at a place, behind the tokens that are read
-pub fault_read : (t : Bytes) (ts : List Token) (place : ℕ) (e : LexFault) → joined ts (lexed_from place (drop place t)) ≡ lexed t
+pub fault_read : (t : Bytes) (ts : List Token) (place : ℕ) (e : LexFault) → joined_tokens ts (lexed_from place (drop place t)) ≡ lexed t
     → lexed_from place (drop place t) ≡ Err e → IsLexFault t e
-fault_read t ts place e same at = lexed-fault t e (sym same ∙ ap (joined ts) at)
+fault_read t ts place e same at = lexed-fault t e (sym same ∙ ap (joined_tokens ts) at)

@@ -13,7 +13,7 @@ use Rattle.qasm_lexer.specs.Forms.{Bytes, Each, IsOfKind, is_space, is_word_byte
 use Rattle.qasm_lexer.specs.Numbers.{begins_with, behind_point, front_digits, has_value}
 use Rattle.qasm_lexer.specs.Lexemes.{begins_number, form_len, is_blank, is_out_of_range, is_sign, lexeme_len}
 use Rattle.qasm_lexer.specs.Lexed.{lexed_from, then_more}
-use Rattle.qasm_lexer.specs.Steps.{IsPlain}
+use Rattle.qasm_lexer.specs.Steps.{IsPlainToken}
 use Rattle.qasm_lexer.specs.declared.Kind.{Kind}
 use Rattle.qasm_lexer.specs.declared.Kind.TheVariants.{Word, Whole, Sign}
 use Rattle.qasm_lexer.specs.declared.plain.Plain.{Plain}
@@ -62,7 +62,7 @@ digit_no_capital b h = grind (arith, nat_tests)
 
 -- ---- a token at the front
 plain-from : (b n : ℕ) (t : Bytes) (kind : Kind) → is_ascii_uppercase b ≡ false → n ≤ length t → form_len (b ∷ t) ≡ suc n
-    → IsOfKind kind (b ∷ take n t) → is_out_of_range (b ∷ take n t) ≡ false → IsPlain (b ∷ t) (record { kind = kind; len = suc n })
+    → IsOfKind kind (b ∷ take n t) → is_out_of_range (b ∷ take n t) ≡ false → IsPlainToken (b ∷ t) (record { kind = kind; len = suc n })
 plain-from b n t kind small within size is kept =
     let looks = kind-is kind (b ∷ take n t) is in
     record {
@@ -79,20 +79,20 @@ unfolding form_len
 sign-len b t h =
     rw (sign_no_space b h, sign_no_letter b h, sign_no_number b h, sign_no_mark b 34 h refl, sign_no_mark b 47 h refl, sign_no_mark b 45 h refl, sign_no_mark b 61 h refl, h) refl
 
-pub sign-plain : (b : ℕ) (t : Bytes) → is_sign b ≡ true → IsPlain (b ∷ t) (record { kind = Sign; len = 1 })
+pub sign-plain : (b : ℕ) (t : Bytes) → is_sign b ≡ true → IsPlainToken (b ∷ t) (record { kind = Sign; len = 1 })
 sign-plain b t h = plain-from b 0 t Sign (sign_no_capital b h) (omega arith) (sign-len b t h) (among0 b h) (rw (sign_no_number b h) refl)
 
 one_more : (n : ℕ) → 1 + n ≡ suc n
 one_more n = omega arith
 
-one_longer : (b n : ℕ) (t : Bytes) (kind : Kind) → IsPlain (b ∷ t) (record { kind = kind; len = suc n }) → IsPlain (b ∷ t) (record { kind = kind; len = n + 1 })
-one_longer b n t kind h = let e : suc n ≡ n + 1 = omega arith in subst (λ m. IsPlain (b ∷ t) (record { kind = kind; len = m })) e h
+one_longer : (b n : ℕ) (t : Bytes) (kind : Kind) → IsPlainToken (b ∷ t) (record { kind = kind; len = suc n }) → IsPlainToken (b ∷ t) (record { kind = kind; len = n + 1 })
+one_longer b n t kind h = let e : suc n ≡ n + 1 = omega arith in subst (λ m. IsPlainToken (b ∷ t) (record { kind = kind; len = m })) e h
 
 word-len : (b : ℕ) (t : Bytes) → is_ascii_lowercase b ≡ true → form_len (b ∷ t) ≡ suc (prefix_len is_word_byte t)
 word-len b t h = letter-len b t (small_letter b h) ∙ rw (letter-word b (small_letter b h)) (one_more (prefix_len is_word_byte t))
 
 pub word-plain : (b n : ℕ) (t : Bytes) → is_ascii_lowercase b ≡ true → n ≡ prefix_len is_word_byte t → n ≤ length t
-    → IsPlain (b ∷ t) (record { kind = Word; len = n + 1 })
+    → IsPlainToken (b ∷ t) (record { kind = Word; len = n + 1 })
 word-plain b n t h e within =
     one_longer b n t Word
     (plain-from b n t Word (small_no_capital b h) within (word-len b t h ∙ ap suc (sym e))
@@ -122,7 +122,7 @@ module _ (laws : LowestLaws) where
       form-number b t (digit_begins b h) ∙ rw (size, point, first) refl
 
   pub whole-plain : (b n : ℕ) (t : Bytes) → is_ascii_digit b ≡ true → n ≡ prefix_len is_ascii_digit t → n ≤ length t → n < 18
-      → begins_with 46 (drop n t) ≡ false → b ≢ 48 → IsPlain (b ∷ t) (record { kind = Whole; len = n + 1 })
+      → begins_with 46 (drop n t) ≡ false → b ≢ 48 → IsPlainToken (b ∷ t) (record { kind = Whole; len = n + 1 })
   whole-plain b n t h e within few point other =
       let each = subst (λ m. Each is_ascii_digit (take m t)) (sym e) (each-front is_ascii_digit t) in
       let long : length (take n t) ≡ n = length-take-le n t within in
@@ -134,12 +134,12 @@ module _ (laws : LowestLaws) where
       no_nought b h = grind (arith, nat_tests)
 
   pub nought-plain : (b n : ℕ) (t : Bytes) → n ≡ prefix_len is_ascii_digit t → begins_with 46 (drop n t) ≡ false → b ≡ 48
-      → IsPlain (b ∷ t) (record { kind = Whole; len = 1 })
-  nought-plain b n t e point is = subst (λ c. IsPlain (c ∷ t) (record { kind = Whole; len = 1 })) (sym is)
+      → IsPlainToken (b ∷ t) (record { kind = Whole; len = 1 })
+  nought-plain b n t e point is = subst (λ c. IsPlainToken (c ∷ t) (record { kind = Whole; len = 1 })) (sym is)
       (plain-from 48 0 t Whole refl (omega arith) (whole-len 48 n t true refl (sym e) point refl) (inl refl) (whole-kept 48 [] refl tt (omega arith)))
 
 -- ---- at a place
-pub plain-there : (t rest : Bytes) (place : ℕ) (p : Plain) → rest ≡ drop place t → IsPlain rest p
+pub plain-there : (t rest : Bytes) (place : ℕ) (p : Plain) → rest ≡ drop place t → IsPlainToken rest p
     → lexed_from place (drop place t)
     ≡ then_more (record { kind = p.kind; from = place; to = place + p.len }) (lexed_from (place + p.len) (drop (place + p.len) t))
 plain-there t rest place p e h =

@@ -13,12 +13,12 @@ use Rattle.std.proofs.lemmas.List.{drop_all}
 use Rattle.std.specs.List.{prefix_len}
 use Rattle.std.specs.Char.{is_ascii_digit}
 use Rattle.std.proofs.lemmas.Bool.{cases_lt, cases_eq}
-use Rattle.angle_fraction.specs.Fraction.{Fraction, fraction, is_small, lowest, nought}
+use Rattle.angle_fraction.specs.Fraction.{Fraction, fraction, is_small, lowest, zero_fraction}
 use Rattle.angle_fraction.specs.Angles.{fitted}
 use Rattle.angle_fraction.specs.declared.AngleFault.TheVariants.{Range}
 use Rattle.qasm_lexer.specs.Forms.{Bytes}
 use Rattle.qasm_lexer.specs.Numbers.{begins_with}
-use Rattle.qasm_lexer.specs.Numbers.{behind_point, decimal, exponent, exponent_size, front_digits, past_digits, front_number, number, part_digits, scaled}
+use Rattle.qasm_lexer.specs.Numbers.{behind_point, decimal, exponent_part, exponent_size, front_digits, past_digits, front_number, number, part_digits, scaled}
 use Rattle.qasm_lexer.proofs.DigitLaws.{front_number-lt, front_number-more, number-front}
 use Rattle.qasm_lexer.proofs.ValueLaws.{LowestLaws, nought_value, small_kept}
 use Rattle.qasm_lexer.proofs.TailLaws.{far_down, far_up, ten_pow}
@@ -45,10 +45,10 @@ pub decimal_few : (t w b p : Bytes) → w ≡ front_digits t → b ≡ behind_po
 decimal_few t w b p e f g long =
     let size : length p ≡ min (prefix_len is_ascii_digit b) (length b) = ap length g ∙ length-take (prefix_len is_ascii_digit b) b in
     let none : past_digits b ≡ [] = drop_all (prefix_len is_ascii_digit b) b (omega arith) in
-    let ends : exponent t ≡ [] = ap (λ (z : Bytes). drop 1 (past_digits z)) (sym f) ∙ ap (λ (z : Bytes). drop 1 z) none in
+    let ends : exponent_part t ≡ [] = ap (λ (z : Bytes). drop 1 (past_digits z)) (sym f) ∙ ap (λ (z : Bytes). drop 1 z) none in
     let part : p ≡ part_digits t = g ∙ ap (λ (z : Bytes). front_digits z) f in
     sym (no_exponent w p) ∙ ap (λ (z : Bytes). with_exponent w p z) (sym ends)
-    ∙ ap (λ (z : Bytes). with_exponent z p (exponent t)) e ∙ ap (λ (z : Bytes). with_exponent (front_digits t) z (exponent t)) part
+    ∙ ap (λ (z : Bytes). with_exponent z p (exponent_part t)) e ∙ ap (λ (z : Bytes). with_exponent (front_digits t) z (exponent_part t)) part
 
 -- ---- by what lowest terms are
 module _ (laws : LowestLaws) where
@@ -60,7 +60,7 @@ module _ (laws : LowestLaws) where
       let part : 10 ^ length p ≤ 10 ^ 18 = pow-le-pow_right {n = 10} (lit< tt) shorter in
       small_kept laws (number (w ++ p)) (10 ^ length p) (ten_pow (length p)) (omega arith) (omega arith)
 
-  pub scaled-nought : (d : Bytes) (places : ℕ) (down : Bool) (size : ℕ) → number d ≡ 0 → fitted (scaled d places down size) ≡ Ok nought
+  pub scaled-nought : (d : Bytes) (places : ℕ) (down : Bool) (size : ℕ) → number d ≡ 0 → fitted (scaled d places down size) ≡ Ok zero_fraction
   unfolding scaled
   scaled-nought d places true size e = rw e (nought_value laws (10 ^ (places + size)) (ten_pow (places + size)))
   scaled-nought d places false size e = rw e (rw zero-mul (nought_value laws (10 ^ places) (ten_pow places)))
@@ -85,11 +85,11 @@ module _ (laws : LowestLaws) where
           let up : 0 < number d = pos_of_ne-zero some in
           far d places down (min size (2 ^ 40)) up le short (omega arith) ∙ sym (far d places down size up le short large)
 
-  pub decimal_by : (t w p : Bytes) (down : Bool) (size : ℕ) → w ≡ front_digits t → p ≡ part_digits t → down ≡ begins_with 45 (exponent t)
-      → size ≡ min (exponent_size (exponent t)) (2 ^ 40) → length w + length p < 2 ^ 32 → fitted (scaled (w ++ p) (length p) down size) ≡ fitted (decimal t)
+  pub decimal_by : (t w p : Bytes) (down : Bool) (size : ℕ) → w ≡ front_digits t → p ≡ part_digits t → down ≡ begins_with 45 (exponent_part t)
+      → size ≡ min (exponent_size (exponent_part t)) (2 ^ 40) → length w + length p < 2 ^ 32 → fitted (scaled (w ++ p) (length p) down size) ≡ fitted (decimal t)
   decimal_by t w p down size e f g h short =
       let long : length (w ++ p) ≡ length w + length p = length-append w p in
       let le : length p ≤ length (w ++ p) = omega arith in
       let less : length (w ++ p) < 2 ^ 32 = omega arith in
-      ap (λ n. fitted (scaled (w ++ p) (length p) down n)) h ∙ scaled-far (w ++ p) (length p) down (exponent_size (exponent t)) le less
+      ap (λ n. fitted (scaled (w ++ p) (length p) down n)) h ∙ scaled-far (w ++ p) (length p) down (exponent_size (exponent_part t)) le less
       ∙ rw (e, f, g) refl

@@ -10,7 +10,7 @@
 use Rattle.std.proofs.Common.{◌≡◌, ℕ, zero, suc, ◌+◌, ◌-◌, ◌*◌, ◌^◌, ◌<◌, ◌≤◌, pos, Ok, Err, refl, sym, ap, ◌∙◌, subst, arith, ◌+ℤ◌, lit<, add-one}
 use Rattle.std.proofs.Math.Nat.{eq_of_mul-eq-mul_right, mul-pos, le_of_mul-le-mul_right, lt_of_mul-lt-mul_right, pow-suc, mul-le-mul_right, one-le-pow, le_trans, lt_of_le_of_lt, lt_of_lt_of_le, pow-le-pow_right, mul_comm, mul_assoc, mul-one, one-mul, zero-mul, suc-mul, le-mul_of_pos_right, le_of_lt, mul-lt-mul_of_pos_right}
 use Rattle.std.proofs.lemmas.Nat.{mul-lt, pow-add}
-use Rattle.angle_fraction.specs.Fraction.{Fraction, fraction, most_part, nought}
+use Rattle.angle_fraction.specs.Fraction.{Fraction, fraction, most_part, zero_fraction}
 use Rattle.angle_fraction.specs.Angles.{fitted}
 use Rattle.angle_fraction.specs.declared.AngleFault.{AngleFault}
 use Rattle.angle_fraction.specs.declared.AngleFault.TheVariants.{Range}
@@ -27,7 +27,7 @@ pub record IsTail (head whole scale : ℕ) (tail : Fraction) : Type 0 where
   pub below : num < tail.den
   pub value : (head * tail.den + num) * scale ≡ whole * tail.den
 
-pub tail_none_yet : (whole : ℕ) → IsTail whole whole 1 nought
+pub tail_none_yet : (whole : ℕ) → IsTail whole whole 1 zero_fraction
 tail_none_yet whole = record { num = 0; is = refl; positive = lit< tt; below = lit< tt; value = omega arith }
 
 -- ---- one digit more

@@ -9,8 +9,8 @@ use Rattle.std.proofs.Common.{◌≡◌, ℕ, zero, suc, ◌+◌, ◌<◌, ◌�
 use Rattle.std.proofs.lemmas.List.{drop-drop, length-drop}
 use Rattle.qasm_lexer.specs.Forms.{Bytes}
 use Rattle.qasm_lexer.specs.Lexemes.{form_len, is_blank, is_out_of_range, kind_of, lexeme_len}
-use Rattle.qasm_lexer.specs.Lexed.{before, kept, lexed_from, lexed_within, then_more, with_lexeme}
-use Rattle.qasm_lexer.specs.Steps.{joined}
+use Rattle.qasm_lexer.specs.Lexed.{before, with_token, lexed_from, lexed_within, then_more, with_lexeme}
+use Rattle.qasm_lexer.specs.Steps.{joined_tokens}
 use Rattle.qasm_lexer.specs.declared.Kind.{Kind}
 use Rattle.qasm_lexer.specs.declared.Token.{Token}
 use Rattle.qasm_lexer.specs.declared.LexFault.{LexFault}
@@ -103,11 +103,11 @@ token_there t rest lexeme place k kind e f some g le token fine h =
     ∙ ap (λ (x : Token). then_more x (lexed_from (place + k) (drop (place + k) t))) (λ i. record { kind = sym h i; from = place; to = place + long i })
 
 -- ---- the tokens that are read, and the others
-pub joined-before : (ts : List Token) (k : Option Token) (r : Result (List Token) LexFault) → joined ts (before k r) ≡ joined (kept ts k) r
+pub joined-before : (ts : List Token) (k : Option Token) (r : Result (List Token) LexFault) → joined_tokens ts (before k r) ≡ joined_tokens (with_token ts k) r
 joined-before ts None r = refl
 joined-before ts (Some k) (Ok us) = ap Ok (sym (append_assoc ts (k ∷ []) us))
 joined-before ts (Some k) (Err e) = refl
 
-pub joined-nil : (r : Result (List Token) LexFault) → joined [] r ≡ r
+pub joined-nil : (r : Result (List Token) LexFault) → joined_tokens [] r ≡ r
 joined-nil (Ok us) = refl
 joined-nil (Err e) = refl

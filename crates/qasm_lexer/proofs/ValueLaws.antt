@@ -13,7 +13,7 @@ use Rattle.std.proofs.Common.{◌≡◌, ◌⊎◌, inl, inr, ℕ, ◌*◌, ◌/
 use Rattle.std.specs.Int.{◌∣◌}
 use Rattle.std.proofs.Math.Nat.{pos_of_dvd_of_pos, div-mul_cancel, dvd-mul_right, div-le_self, mul_comm, mul_assoc, zero-mul, le_trans}
 use Rattle.std.specs.Result.{is_ok}
-use Rattle.angle_fraction.specs.Fraction.{Fraction, IsReduced, common_factor, greatest_common, fraction, is_small, lowest, most_part, nought}
+use Rattle.angle_fraction.specs.Fraction.{Fraction, IsReduced, common_factor, greatest_common, fraction, is_small, lowest, most_part, zero_fraction}
 use Rattle.angle_fraction.specs.Angles.{fitted}
 use Rattle.angle_fraction.specs.declared.AngleFault.{AngleFault}
 use Rattle.angle_fraction.specs.declared.AngleFault.TheVariants.{Range}
@@ -130,6 +130,6 @@ module _ (laws : LowestLaws) where
   same_value a b c d some other e =
       ap (λ z. if is_small z then Ok z else Err Range) (laws.same (fraction (pos a) b) (fraction (pos c) d) some other (ap pos e))
 
-  pub nought_value : (b : ℕ) → 0 < b → fitted (fraction (pos 0) b) ≡ Ok nought
+  pub nought_value : (b : ℕ) → 0 < b → fitted (fraction (pos 0) b) ≡ Ok zero_fraction
   unfolding fitted is_small lowest common_factor greatest_common
   nought_value b some = same_value 0 b 0 1 some (lit< tt) (zero-mul 1 ∙ sym (zero-mul b)) ∙ refl

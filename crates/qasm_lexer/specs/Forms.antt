@@ -1,6 +1,6 @@
 -- The forms of lexemes. A byte is a number: 9, 10, 13 and 32 are tab, line break, return and space.
 --   Bytes             a text, or a part of one
---   is_space, is_word_byte, is_quoted, in_line   classes of bytes: white space; what a word goes on with; what may stand
+--   is_space, is_word_byte, is_quoted, is_no_break  classes of bytes: white space; what a word goes on with; what may stand
 --                     between quotes; what may stand in a line
 --   Each p w          each byte of w is of the class p
 --   OneOf ws w        w is one of these
@@ -17,7 +17,7 @@
 --   IsBlank           white space or a comment
 --   IsOfKind kind w   w is a token of this kind
 --   IsLexeme          white space, a comment or a token
---   capitals, IsAllowed   of the words that begin with a capital there are only these
+--   capitals, IsAllowedWord  of the words that begin with a capital there are only these
 --   IsNumber          a whole number or a real
 use Rattle.std.specs.Prelude.{◌≡◌, ◌≢◌, ◌⊎◌, ⊤, ℕ, ◌+◌, ◌<◌, ◌==◌, ◌||◌, Bool, true, not, List, [], ◌∷◌, ◌++◌, codes, length}
 use Rattle.std.specs.List.{AllByRecursion}
@@ -40,8 +40,8 @@ is_word_byte b = is_ascii_alphanumeric b || (b == 95)
 abbrev pub is_quoted : ℕ → Bool
 is_quoted b = not ((b == 34) || (b == 10))
 
-abbrev pub in_line : ℕ → Bool
-in_line b = not (b == 10)
+abbrev pub is_no_break : ℕ → Bool
+is_no_break b = not (b == 10)
 
 abbrev pub Each : (ℕ → Bool) → Bytes → Type 0
 Each p w = AllByRecursion (λ b. p b ≡ true) w
@@ -56,7 +56,7 @@ IsSpace w = (b : ℕ) × (w ≡ b ∷ []) × (is_space b ≡ true)
 
 -- 47 is the slash
 abbrev pub IsComment : Bytes → Type 0
-IsComment w = (line : Bytes) × (w ≡ 47 ∷ 47 ∷ line) × Each in_line line
+IsComment w = (line : Bytes) × (w ≡ 47 ∷ 47 ∷ line) × Each is_no_break line
 
 -- ---- tokens
 abbrev pub IsWord : Bytes → Type 0
@@ -113,9 +113,9 @@ abbrev pub capitals : List Bytes
 capitals = codes "OPENQASM" ∷ codes "U" ∷ codes "CX" ∷ []
 
 -- a word goes as far as it can, and of those with a capital in front there are only these
-abbrev pub IsAllowed : Bytes → Type 0
-IsAllowed [] = ⊤
-IsAllowed (b ∷ w) = is_ascii_uppercase b ≡ true → OneOf capitals (b ∷ w)
+abbrev pub IsAllowedWord : Bytes → Type 0
+IsAllowedWord [] = ⊤
+IsAllowedWord (b ∷ w) = is_ascii_uppercase b ≡ true → OneOf capitals (b ∷ w)
 
 abbrev pub IsNumber : Bytes → Type 0
 IsNumber w = IsWhole w ⊎ IsReal w

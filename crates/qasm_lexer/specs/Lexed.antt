@@ -1,7 +1,7 @@
 -- The tokens of a text, or its first fault, lexeme by lexeme: a function that the relations of `Tokens` determine.
 --   token_at          a token of these bytes at a place
 --   then_more, before, with_lexeme   a token, or a lexeme, before the tokens that follow
---   kept              a token or nothing, behind those that are read
+--   with_token        a token or nothing, behind those that are read
 --   lexed_within      the tokens of a text that begins at a place, of at most so many lexemes
 --   lexed_from, lexed the tokens of a text that begins at a place; of a whole text
 use Rattle.std.specs.Prelude.{ℕ, zero, suc, ◌+◌, ◌==◌, List, [], ◌∷◌, ◌++◌, Option, Some, None, Result, Ok, Err, if◌then◌else◌, drop, take, length}
@@ -19,9 +19,9 @@ then_more k (Ok ts) = Ok (k ∷ ts)
 then_more k (Err e) = Err e
 
 -- a token or nothing, behind those that are read
-abbrev pub kept : List Token → Option Token → List Token
-kept ts None = ts
-kept ts (Some k) = ts ++ k ∷ []
+abbrev pub with_token : List Token → Option Token → List Token
+with_token ts None = ts
+with_token ts (Some k) = ts ++ k ∷ []
 
 -- a lexeme at a place, before what follows
 abbrev pub with_lexeme : ℕ → Bytes → Result (List Token) LexFault → Result (List Token) LexFault

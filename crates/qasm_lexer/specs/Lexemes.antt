@@ -16,7 +16,7 @@ use Rattle.std.specs.Prelude.{ℕ, ◌+◌, ◌==◌, ◌&&◌, ◌||◌, Bool, 
 use Rattle.std.specs.List.{prefix_len}
 use Rattle.std.specs.Char.{is_ascii_alphabetic, is_ascii_digit, is_ascii_uppercase}
 use Rattle.std.specs.Str.{bytes_eq}
-use Rattle.qasm_lexer.specs.Forms.{Bytes, in_line, is_quoted, is_space, is_word_byte}
+use Rattle.qasm_lexer.specs.Forms.{Bytes, is_no_break, is_quoted, is_space, is_word_byte}
 use Rattle.qasm_lexer.specs.Numbers.{begins_with, exponent_sign_len, has_point, has_value}
 use Rattle.qasm_lexer.specs.declared.Kind.{Kind}
 use Rattle.qasm_lexer.specs.declared.Kind.TheVariants.{Word, Whole, Real, Text, Sign}
@@ -48,7 +48,7 @@ quoted_len t = let n = prefix_len is_quoted t in if begins_with 34 (drop n t) th
 
 -- of what follows a first slash
 abbrev pub slash_len : Bytes → ℕ
-slash_len t = if begins_with 47 t then 1 + prefix_len in_line t else 1
+slash_len t = if begins_with 47 t then 1 + prefix_len is_no_break t else 1
 
 -- of a byte that begins no word, number or white space, and of what follows it
 abbrev pub mark_len : ℕ → Bytes → ℕ

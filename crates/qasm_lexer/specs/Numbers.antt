@@ -8,7 +8,7 @@
 --   front_digits, past_digits   the digits at a text's front, and what follows them
 --   has_point         a point follows the digits
 --   behind_point, part_digits   what follows the point, and the digits of it
---   exponent          what follows the `e`
+--   exponent_part     what follows the `e`
 --   exponent_size     the exponent without its sign
 --   scaled            the value of digits, told how many of them are behind the point, times 10 to a power that is told by
 --                     its sign and its size
@@ -59,8 +59,8 @@ behind_point t = if has_point t then drop 1 (past_digits t) else []
 abbrev pub part_digits : Bytes → Bytes
 part_digits t = front_digits (behind_point t)
 
-abbrev pub exponent : Bytes → Bytes
-exponent t = drop 1 (past_digits (behind_point t))
+abbrev pub exponent_part : Bytes → Bytes
+exponent_part t = drop 1 (past_digits (behind_point t))
 
 abbrev pub exponent_size : Bytes → ℕ
 exponent_size e = number (front_digits (drop (exponent_sign_len e) e))
@@ -73,7 +73,7 @@ scaled digits places down size =
 
 abbrev pub decimal : Bytes → Fraction
 decimal t =
-    scaled (front_digits t ++ part_digits t) (length (part_digits t)) (begins_with 45 (exponent t)) (exponent_size (exponent t))
+    scaled (front_digits t ++ part_digits t) (length (part_digits t)) (begins_with 45 (exponent_part t)) (exponent_size (exponent_part t))
 
 abbrev pub has_value : Bytes → Bool
 has_value t = is_small (lowest (decimal t))

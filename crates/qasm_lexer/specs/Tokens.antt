@@ -15,7 +15,7 @@
 --   IsNumberToken     the token's place in the text holds a number whose value is kept
 use Rattle.std.specs.Prelude.{◌≡◌, ◌⊎◌, ℕ, ◌+◌, ◌-◌, ◌<◌, ◌≤◌, true, false, List, [], ◌∷◌, ◌++◌, drop, take, length}
 use Rattle.std.specs.List.{AllByRecursion}
-use Rattle.qasm_lexer.specs.Forms.{Bytes, IsAllowed, IsBlank, IsLexeme, IsNumber, IsOfKind}
+use Rattle.qasm_lexer.specs.Forms.{Bytes, IsAllowedWord, IsBlank, IsLexeme, IsNumber, IsOfKind}
 use Rattle.qasm_lexer.specs.Numbers.{has_value}
 use Rattle.qasm_lexer.specs.declared.Kind.{Kind}
 use Rattle.qasm_lexer.specs.declared.Token.{Token}
@@ -31,7 +31,7 @@ pub record IsLongest (w t rest : Bytes) : Type 0 where
 
 abbrev pub AreLexemes : List Bytes → Bytes → Bytes → Type 0
 AreLexemes [] t rest = t ≡ rest
-AreLexemes (w ∷ ws) t rest = (mid : Bytes) × IsLongest w t mid × IsAllowed w × AreLexemes ws mid rest
+AreLexemes (w ∷ ws) t rest = (mid : Bytes) × IsLongest w t mid × IsAllowedWord w × AreLexemes ws mid rest
 
 abbrev pub HasValue : Bytes → Type 0
 HasValue w = IsNumber w → has_value w ≡ true
@@ -55,7 +55,7 @@ pub record Leads (ws : List Bytes) (t : Bytes) (place : ℕ) (rest : Bytes) : Ty
   pub reached : place + length rest ≡ length t
 
 abbrev pub IsStuck : Bytes → Type 0
-IsStuck t = (w rest : Bytes) → IsLongest w t rest → IsAllowed w → ⊥
+IsStuck t = (w rest : Bytes) → IsLongest w t rest → IsAllowedWord w → ⊥
 
 unfoldable pub IsBadByte : Bytes → ℕ → Type 0
 IsBadByte t place = (ws : List Bytes) × (rest : Bytes) × Leads ws t place rest × (0 < length rest) × IsStuck rest
@@ -77,7 +77,7 @@ pub record IsTokenOf (t : Bytes) (k : Token) : Type 0 where
   pub ordered : k.from < k.to
   pub within : k.to ≤ length t
   pub form : IsOfKind k.kind (bytes_of t k)
-  pub allowed : IsAllowed (bytes_of t k)
+  pub allowed : IsAllowedWord (bytes_of t k)
   pub kept : HasValue (bytes_of t k)
 
 pub record IsNumberToken (t : Bytes) (k : Token) : Type 0 where

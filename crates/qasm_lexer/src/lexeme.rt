@@ -3,7 +3,7 @@
 ghost use Rattle.std.specs.Prelude.{◌≡◌, ◌+◌, ◌^◌, ◌≤◌, ◌<◌, length, take, drop};
 ghost use Rattle.std.specs.List.{prefix_len};
 ghost use Rattle.std.specs.Char.{is_ascii_digit};
-ghost use Rattle.qasm_lexer.specs.Forms.{in_line, is_quoted, is_space, is_word_byte};
+ghost use Rattle.qasm_lexer.specs.Forms.{is_no_break, is_quoted, is_space, is_word_byte};
 ghost use Rattle.qasm_lexer.specs.Numbers.{begins_with, exponent_sign_len, has_point};
 ghost use Rattle.qasm_lexer.specs.Lexemes.{begins_number, exponent_len, form_by, form_len, is_blank, is_capital_word, is_number, is_sign, is_stray, kind_of, lexeme_len, mark_len, number_kind, number_len, quoted_len, real_len, slash_len};
 
@@ -165,13 +165,13 @@ fn quoted_len(text: &[u8]) -> usize
 }
 
 fn in_line(byte: u8) -> bool
-    ensures { result ≡ in_line byte }
+    ensures { result ≡ is_no_break byte }
 {
     byte != b'\n'
 }
 
 fn line_len(text: &[u8]) -> usize
-    ensures value { result ≡ prefix_len in_line text.now }
+    ensures value { result ≡ prefix_len is_no_break text.now }
     ensures bound { result ≤ length text.now }
 {
     text.iter().take_while(|b| in_line(**b)).count()

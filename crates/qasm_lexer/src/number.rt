@@ -3,7 +3,7 @@
 ghost use Rattle.std.specs.Prelude.{◌≡◌, ◌+◌, ◌-◌, ◌*◌, ◌^◌, ◌≤◌, ◌<◌, ◌++◌, length, min, pos, ◌+ℤ◌, slice_index, IfSome, Ok, Err};
 ghost use Rattle.angle_fraction.specs.Fraction.{fraction, most_part};
 ghost use Rattle.angle_fraction.specs.Angles.{fitted};
-ghost use Rattle.qasm_lexer.specs.Numbers.{begins_with, behind_point, decimal, digit, exponent, exponent_sign_len, exponent_size, front_digits, front_number, has_point, has_value, number, past_digits, scaled};
+ghost use Rattle.qasm_lexer.specs.Numbers.{begins_with, behind_point, decimal, digit, exponent_part, exponent_sign_len, exponent_size, front_digits, front_number, has_point, has_value, number, past_digits, scaled};
 
 use crate::lexeme::{after, begins_with, digits_len, exponent_sign_len, front};
 use angle_fraction::{AngleFault, Frac, lowest, lowest_terms};
@@ -205,7 +205,7 @@ fn behind_point(text: &[u8]) -> &[u8]
 
 /// What follows the letter of an exponent, or nothing.
 fn exponent(text: &[u8]) -> &[u8]
-    ensures { result.now ≡ exponent text.now }
+    ensures { result.now ≡ exponent_part text.now }
 {
     let rest = past_digits(behind_point(text));
     match rest {

@@ -3,7 +3,7 @@
 
 ghost use Rattle.std.specs.Prelude.{◌≡◌, ◌+◌, ◌^◌, ◌<◌, ◌∷◌, true, IfSome, length};
 ghost use Rattle.std.specs.Char.{is_ascii_digit};
-ghost use Rattle.qasm_lexer.specs.Steps.{IsPlain};
+ghost use Rattle.qasm_lexer.specs.Steps.{IsPlainToken};
 
 use crate::Kind;
 use crate::lexeme::{after, begins_with, digits_len, is_sign, word_bytes_len};
@@ -21,7 +21,7 @@ pub struct Plain {
 fn short_whole(first: u8, rest: &[u8]) -> Option<Plain>
     requires digit { is_ascii_digit first ≡ true }
     requires small { length rest.now < 2 ^ 32 }
-    ensures { IfSome result (IsPlain (first ∷ rest.now)) }
+    ensures { IfSome result (IsPlainToken (first ∷ rest.now)) }
 {
     lowest_terms();
     let more = digits_len(rest);
@@ -39,7 +39,7 @@ fn short_whole(first: u8, rest: &[u8]) -> Option<Plain>
 #[inline]
 fn plain_by(first: u8, rest: &[u8]) -> Option<Plain>
     requires { length rest.now < 2 ^ 32 }
-    ensures { IfSome result (IsPlain (first ∷ rest.now)) }
+    ensures { IfSome result (IsPlainToken (first ∷ rest.now)) }
 {
     if is_sign(first) {
         return Some(Plain {
@@ -63,7 +63,7 @@ fn plain_by(first: u8, rest: &[u8]) -> Option<Plain>
 #[inline]
 pub fn plain_token(text: &[u8]) -> Option<Plain>
     requires short { length text.now < 2 ^ 32 }
-    ensures plain { IfSome result (IsPlain text.now) }
+    ensures plain { IfSome result (IsPlainToken text.now) }
 {
     let [first, rest @ ..] = text else {
         return None;

@@ -3,8 +3,8 @@
 ghost use Rattle.std.specs.Prelude.{◌≡◌, ◌<◌, ◌≤◌, ◌^◌, [], drop, length, IfOk, IfErr, All, Ok};
 ghost use Rattle.angle_fraction.specs.Fraction.{lowest};
 ghost use Rattle.qasm_lexer.specs.Numbers.{decimal};
-ghost use Rattle.qasm_lexer.specs.Lexed.{kept, lexed, lexed_from};
-ghost use Rattle.qasm_lexer.specs.Steps.{joined};
+ghost use Rattle.qasm_lexer.specs.Lexed.{with_token, lexed, lexed_from};
+ghost use Rattle.qasm_lexer.specs.Steps.{joined_tokens};
 ghost use Rattle.qasm_lexer.specs.Tokens.{AreTokens, IsLexFault, IsNumberToken, IsTokenOf, bytes_of};
 
 use crate::lexeme::{after, begins_with, digits_len};
@@ -26,7 +26,7 @@ fn room_for(alloc: Global, count: usize) -> Vec<Token>
 
 /// Puts a token, where there is one, behind the others.
 fn keep(tokens: &mut Vec<Token>, token: Option<Token>) -> Result<(), LexFault>
-    ensures ok { IfOk result (λ _. tokens.new.items ≡ kept tokens.old.items token) }
+    ensures ok { IfOk result (λ _. tokens.new.items ≡ with_token tokens.old.items token) }
     ensures err { IfErr result (λ e. e ≡ LexFault.NoMemory) }
 {
     let Some(token) = token else {
@@ -43,7 +43,7 @@ fn keep(tokens: &mut Vec<Token>, token: Option<Token>) -> Result<(), LexFault>
 fn keep_noughts(tokens: &mut Vec<Token>, text: &[u8], place: usize) -> Result<usize, LexFault>
     requires within { place ≤ length text.now }
     requires short { length text.now < 2 ^ 32 }
-    ensures same { IfOk result (λ to. joined tokens.new.items (lexed_from to (drop to text.now)) ≡ joined tokens.old.items (lexed_from place (drop place text.now))) }
+    ensures same { IfOk result (λ to. joined_tokens tokens.new.items (lexed_from to (drop to text.now)) ≡ joined_tokens tokens.old.items (lexed_from place (drop place text.now))) }
     ensures further { IfOk result (λ to. place ≤ to) }
     ensures bound { IfOk result (λ to. to ≤ length text.now) }
     ensures err { IfErr result (λ e. e ≡ LexFault.NoMemory) }

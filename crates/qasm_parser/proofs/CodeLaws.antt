@@ -11,17 +11,17 @@ use Rattle.qasm_parser.specs.Symbols.{Symbol}
 use Rattle.qasm_parser.specs.declared.symbols.Keyword.{Keyword}
 use Rattle.qasm_parser.specs.declared.symbols.Keyword.TheVariants.{OpenQasm, Include, Qreg, Creg, Gate, Opaque, Measure, Reset, If, Barrier, Pi, U, Cx}
 use Rattle.qasm_parser.specs.Symbols.{word}
-use Rattle.qasm_parser.specs.Reading.{action_of, application_of, barrier_of, begins_with, begins_word, conditional_of, gate_of, head_of, header_of, include_of, item_of, measure_of, opaque_of, register_of, reset_of, skip, statement_of, version_of, with_act, with_apply, word_code}
+use Rattle.qasm_parser.specs.Reading.{action_of, application_of, barrier_of, begins_with_mark, begins_word, conditional_of, gate_of, head_of, header_of, include_of, item_of, measure_of, opaque_of, register_of, reset_of, skip, statement_of, version_of, with_act, with_apply, word_code}
 
-pub skip-next : (m : Mark) (ts : List Symbol) → begins_with m ts ≡ true → skip m ts ≡ Some (drop 1 ts)
+pub skip-next : (m : Mark) (ts : List Symbol) → begins_with_mark m ts ≡ true → skip m ts ≡ Some (drop 1 ts)
 skip-next m [] h = cc
 skip-next m (t ∷ ts) h = rw (h, skip) refl
 
-pub skip-other : (m : Mark) (ts : List Symbol) → begins_with m ts ≡ false → skip m ts ≡ None
+pub skip-other : (m : Mark) (ts : List Symbol) → begins_with_mark m ts ≡ false → skip m ts ≡ None
 skip-other m [] h = refl
 skip-other m (t ∷ ts) h = rw (h, skip) refl
 
-pub next-shorter : (m : Mark) (ts : List Symbol) → begins_with m ts ≡ true → length (drop 1 ts) < length ts
+pub next-shorter : (m : Mark) (ts : List Symbol) → begins_with_mark m ts ≡ true → length (drop 1 ts) < length ts
 next-shorter m [] h = cc
 next-shorter m (t ∷ ts) h = omega arith
 

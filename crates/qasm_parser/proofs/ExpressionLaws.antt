@@ -11,8 +11,8 @@ use Rattle.angle_fraction.specs.declared.signs.Binary.TheVariants.{Add, Sub, Mul
 use Rattle.qasm_parser.specs.declared.symbols.Mark.TheVariants.{Close}
 use Rattle.qasm_parser.specs.Symbols.{Symbol, mark, sign}
 use Rattle.qasm_parser.specs.Tree.{Expression, number, pi, param, negated, paren, call, binary, depth}
-use Rattle.qasm_parser.specs.Expressions.{IsShaped, IsWritten, SpellsSum, left_level, level, right_level, sign_level}
-use Rattle.qasm_parser.specs.Machine.{Frame, minus, opened, called, before, front, behind, Role, atom, begins, ends, calls, joins, none, binding, capped, closed, finished, grown, joined, parenthesis, reduce, reduced, role, run, sum_of, tightness, tightness_of}
+use Rattle.qasm_parser.specs.Expressions.{IsShaped, SpellsExpression, SpellsSum, left_level, level, right_level, sign_level}
+use Rattle.qasm_parser.specs.Machine.{Frame, minus, opened, called, before, front, behind, Role, atom, begins, ends, calls, joins, none, binding, capped, closed, finished, grown, joined_parts, parenthesis, reduce, reduced, role, run, read_sum, tightness, tightness_of}
 
 abbrev pub tight : List Frame → ℕ
 tight [] = 0
@@ -149,17 +149,17 @@ module _ (limit : ℕ) (positive : 1 ≤ limit) where
   capped-grown f e d = grown-by f e (nat_le (depth e) limit) refl d
 
   joined-by : (s : Binary) (l r : Expression) (a b : Bool) → nat_le (depth l) limit ≡ a → nat_le (depth r) limit ≡ b
-      → joined limit s (if a then Some l else None) (if b then Some r else None) ≡ capped limit (binary s l r)
+      → joined_parts limit s (if a then Some l else None) (if b then Some r else None) ≡ capped limit (binary s l r)
   unfolding capped
   joined-by s l r true true h k = refl
   joined-by s l r true false h k = let t : nat_le (max (depth l) (depth r) + 1) limit ≡ false = grind (arith, nat_tests) in rw t refl
   joined-by s l r false b h k = let t : nat_le (max (depth l) (depth r) + 1) limit ≡ false = grind (arith, nat_tests) in rw t (none_left b)
     where
-      none_left : (b : Bool) → joined limit s None (if b then Some r else None) ≡ None
+      none_left : (b : Bool) → joined_parts limit s None (if b then Some r else None) ≡ None
       none_left true = refl
       none_left false = refl
 
-  pub capped-joined : (s : Binary) (l r : Expression) → joined limit s (capped limit l) (capped limit r) ≡ capped limit (binary s l r)
+  pub capped-joined : (s : Binary) (l r : Expression) → joined_parts limit s (capped limit l) (capped limit r) ≡ capped limit (binary s l r)
   unfolding capped
   capped-joined s l r = joined-by s l r (nat_le (depth l) limit) (nat_le (depth r) limit) refl refl
 
@@ -211,7 +211,7 @@ module _ (limit : ℕ) (positive : 1 ≤ limit) where
       by_role (calls g) is = outside (calls g) is tt
       by_role none is = outside none is tt
 
-  pub run-reads : (e : Expression) (fs : List Frame) (ts rest : List Symbol) → IsShaped e → IsWritten e ts rest → tight fs < level e → Below (grip e) rest
+  pub run-reads : (e : Expression) (fs : List Frame) (ts rest : List Symbol) → IsShaped e → SpellsExpression e ts rest → tight fs < level e → Below (grip e) rest
       → run limit fs front ts ≡ run limit fs (behind (capped limit e)) rest
   run-reads (number value) fs ts rest shaped reads low below =
       elim reads [
@@ -271,7 +271,7 @@ module _ (limit : ℕ) (positive : 1 ≤ limit) where
       by_role (calls g) is = rw (is, run) refl
       by_role none is = rw (is, run) refl
 
-  pub sum_of-spelt : (e : Expression) (ts rest : List Symbol) → SpellsSum e ts rest → NoSign rest → sum_of limit ts ≡ Some (capped limit e, rest)
+  pub sum_of-spelt : (e : Expression) (ts rest : List Symbol) → SpellsSum e ts rest → NoSign rest → read_sum limit ts ≡ Some (capped limit e, rest)
   sum_of-spelt e ts rest h no_sign =
       let g = grips e in
       run-reads e [] ts rest h.shaped h.reads g.some (Below-more 1 (grip e) rest (omega arith) no_sign)

@@ -15,10 +15,10 @@ use Rattle.qasm_parser.specs.declared.symbols.Mark.{Mark}
 use Rattle.qasm_parser.specs.declared.symbols.Mark.TheVariants.{Semicolon, Comma, Open, Close, OpenBracket, CloseBracket, Arrow}
 use Rattle.qasm_parser.specs.Symbols.{Symbol, word, function, name, whole, real, quoted, mark, sign, other}
 use Rattle.qasm_parser.specs.Tree.{Expression, number, pi, param, negated, paren, call, binary, depth, Application, Action, apply, measure, reset, barrier, most_depth}
-use Rattle.qasm_parser.specs.Expressions.{IsWritten}
-use Rattle.qasm_parser.specs.Machine.{capped, sum_of}
-use Rattle.qasm_parser.specs.Spelling.{Form, by_u, by_cx, alone, empty, listed, IsAllowed, Seen, seen, Grammar, SpellsAction, IsConditional, SpellsAngle, SpellsApplication, SpellsArg, SpellsArgs, SpellsBarrier, SpellsEach, SpellsForm, SpellsItem, SpellsList, SpellsName, BehindComma, index_symbols, whole_symbol, first_deep}
-use Rattle.qasm_parser.specs.Reading.{Head, Read, action_of, angle_of, angles_of, angles_of_u, application_of, applied, arg_of, args_of, argument, barrier_of, bracketed_of, deep_from, head, head_of, index_of, is_mark, item_of, kept, list_of, measure_of, more_of, name_of, natural, optional_of, read, reset_of, skip, whole_number, whole_of, with_apply, with_gate, word_action, word_head, word_item}
+use Rattle.qasm_parser.specs.Expressions.{SpellsExpression}
+use Rattle.qasm_parser.specs.Machine.{capped, read_sum}
+use Rattle.qasm_parser.specs.Spelling.{Form, by_u, by_cx, alone, empty, listed, IsAllowedIndex, SeenExpression, seen, Grammar, SpellsAction, IsConditional, SpellsAngle, SpellsApplication, SpellsArg, SpellsArgs, SpellsBarrier, SpellsEach, SpellsForm, SpellsItem, SpellsList, SpellsName, BehindComma, index_symbols, whole_symbol, first_deep}
+use Rattle.qasm_parser.specs.Reading.{Head, Read, action_of, angle_of, angles_of, angles_of_u, application_of, applied_head, arg_of, args_of, argument, barrier_of, bracketed_of, deep_from, head, head_of, optional_index_of, is_mark, item_of, kept_or_pi, list_of, measure_of, more_of, name_of, natural, optional_of, read, reset_of, skip, whole_number, whole_of, with_apply, with_gate_name, word_action, word_head, word_item}
 use Rattle.qasm_parser.proofs.ExpressionLaws.{NoSign, sum_of-spelt}
 use Rattle.qasm_parser.proofs.SumLaws.{sum_of-sound}
 use Rattle.qasm_parser.proofs.RepeatLaws.{Complete, Sound, Spelt, Takes, list-complete, list-sound, skip-sound}
@@ -103,29 +103,29 @@ unfolding bracketed_of
 bracketed_of-whole n ts = ap (option_and_then (λ m. option_and_then (λ rest. Some (read m.value None rest)) (skip CloseBracket m.rest))) (whole_of-whole n _)
 
 -- ---- arguments
-index-sound : (plain : Bool) (ts : List Symbol) (r : Read (Option ℕ)) → index_of plain ts ≡ Some r
-    → (ts ≡ index_symbols r.value r.rest) × IsAllowed plain r.value
+index-sound : (plain : Bool) (ts : List Symbol) (r : Read (Option ℕ)) → optional_index_of plain ts ≡ Some r
+    → (ts ≡ index_symbols r.value r.rest) × IsAllowedIndex plain r.value
 index-sound true ts r e =
     let same : read None None ts ≡ r = cc in
-    subst (λ (x : Read (Option ℕ)). (ts ≡ index_symbols x.value x.rest) × IsAllowed true x.value) same (refl, refl)
+    subst (λ (x : Read (Option ℕ)). (ts ≡ index_symbols x.value x.rest) × IsAllowedIndex true x.value) same (refl, refl)
 index-sound false ts r e = by_skip (skip OpenBracket ts) refl e
   where
     by_skip : (o : Option (List Symbol)) → skip OpenBracket ts ≡ o
         → (elim o [ None ↦ Some (read None None ts) | Some us ↦ option_map (λ n. read (Some n.value) None n.rest) (bracketed_of us) ]) ≡ Some r
-        → (ts ≡ index_symbols r.value r.rest) × IsAllowed false r.value
+        → (ts ≡ index_symbols r.value r.rest) × IsAllowedIndex false r.value
     by_skip None is e' =
         let same : read None None ts ≡ r = cc in
-        subst (λ (x : Read (Option ℕ)). (ts ≡ index_symbols x.value x.rest) × IsAllowed false x.value) same (refl, tt)
+        subst (λ (x : Read (Option ℕ)). (ts ≡ index_symbols x.value x.rest) × IsAllowedIndex false x.value) same (refl, tt)
     by_skip (Some us) is e' =
         mapped (λ n. read (Some n.value) None n.rest) (bracketed_of us) r e'
-        (λ n found same. subst (λ (x : Read (Option ℕ)). (ts ≡ index_symbols x.value x.rest) × IsAllowed false x.value) same
+        (λ n found same. subst (λ (x : Read (Option ℕ)). (ts ≡ index_symbols x.value x.rest) × IsAllowedIndex false x.value) same
         (skip-sound OpenBracket ts us is ∙ ap (λ x. mark OpenBracket ∷ x) (bracketed-sound us n found), tt))
 
 pub arg-sound : (limit : ℕ) (plain : Bool) → Sound limit (λ a. a) (SpellsArg plain) (arg_of plain)
 unfolding arg_of
 arg-sound limit plain ts r e =
     both_of _ (name_of ts) r e
-    (λ n named more. both_of _ (index_of plain n.rest) r more
+    (λ n named more. both_of _ (optional_index_of plain n.rest) r more
     (λ i indexed last.
     let same : read (argument n.value i.value) None i.rest ≡ r = cc in
     let s = index-sound plain n.rest i indexed in
@@ -145,14 +145,14 @@ NoBracket ts = skip OpenBracket ts ≡ None
 pub arg-complete : (limit : ℕ) (plain : Bool) → Complete limit (λ a. a) (SpellsArg plain) (arg_of plain) NoBracket
 unfolding arg_of
 arg-complete limit plain a ts rest found s ends =
-    ap (option_and_then (λ n. option_and_then (λ i. Some (read (argument n.value i.value) None i.rest)) (index_of plain n.rest)))
+    ap (option_and_then (λ n. option_and_then (λ i. Some (read (argument n.value i.value) None i.rest)) (optional_index_of plain n.rest)))
     (ap name_of s.0 ∙ name_of-name a.name _)
     ∙ ap (option_and_then (λ i. Some (read (argument a.name i.value) None i.rest))) (index a.index plain s.1)
     ∙ ap (λ f. Some (read a (first_deep limit f) rest)) (sym s.2)
   where
-    index : (i : Option ℕ) (plain : Bool) → IsAllowed plain i → index_of plain (index_symbols i rest) ≡ Some (read i None rest)
+    index : (i : Option ℕ) (plain : Bool) → IsAllowedIndex plain i → optional_index_of plain (index_symbols i rest) ≡ Some (read i None rest)
     index None true h = refl
-    index None false h = rw (ends, index_of) refl
+    index None false h = rw (ends, optional_index_of) refl
     index (Some n) true h = cc
     index (Some n) false h = ap (option_map (λ m. read (Some m.value) None m.rest)) (bracketed_of-whole n rest)
 
@@ -184,13 +184,13 @@ name-takes limit n ts rest found s =
     omega arith
 
 -- nothing is found in what has no expressions
-each-found : {A : Type 0} (R : Grammar A) → ((x : A) (ts rest : List Symbol) (found : List Seen) → R x ts rest found → found ≡ [])
-    → (xs : List A) (ts rest : List Symbol) (found : List Seen) → SpellsEach R xs ts rest found → found ≡ []
+each-found : {A : Type 0} (R : Grammar A) → ((x : A) (ts rest : List Symbol) (found : List SeenExpression) → R x ts rest found → found ≡ [])
+    → (xs : List A) (ts rest : List Symbol) (found : List SeenExpression) → SpellsEach R xs ts rest found → found ≡ []
 each-found R none [] ts rest found s = s.1
 each-found R none (x ∷ xs) ts rest found s = s.5 ∙ ap (λ f. f ++ s.2) (none x ts s.0 s.1 s.3) ∙ each-found R none xs s.0 rest s.2 s.4
 
-list-found : {A : Type 0} (R : Grammar A) → ((x : A) (ts rest : List Symbol) (found : List Seen) → R x ts rest found → found ≡ [])
-    → (xs : List A) (ts rest : List Symbol) (found : List Seen) → SpellsList R xs ts rest found → SpellsList R xs ts rest []
+list-found : {A : Type 0} (R : Grammar A) → ((x : A) (ts rest : List Symbol) (found : List SeenExpression) → R x ts rest found → found ≡ [])
+    → (xs : List A) (ts rest : List Symbol) (found : List SeenExpression) → SpellsList R xs ts rest found → SpellsList R xs ts rest []
 list-found R none [] ts rest found s = absurd s
 list-found R none (x ∷ xs) ts rest found s =
     let all_none = s.5 ∙ ap (λ f. f ++ s.2) (none x ts s.0 s.1 s.3) ∙ each-found (BehindComma R) (λ y us more f h. none y h.0 more f h.2) xs s.0 rest s.2 s.4 in
@@ -236,7 +236,7 @@ args-complete plain args ts rest s =
     ∙ ap (λ xs. Some (read xs None (mark Semicolon ∷ rest))) (map-id args))
 
 -- ---- angles
-reads-takes : (e : Expression) (ts rest : List Symbol) → IsWritten e ts rest → length rest < length ts
+reads-takes : (e : Expression) (ts rest : List Symbol) → SpellsExpression e ts rest → length rest < length ts
 reads-takes (number value) ts rest s = elim s [ inl h ↦ (let k : length ts ≡ suc (length rest) = ap length h in omega arith) | inr h ↦ (let k : length ts ≡ suc (length rest) = ap length h in omega arith) ]
 reads-takes pi ts rest s = let k : length ts ≡ suc (length rest) = ap length s in omega arith
 reads-takes (param n) ts rest s = let k : length ts ≡ suc (length rest) = ap length s in omega arith
@@ -266,7 +266,7 @@ angle-takes limit cap e ts rest found s = reads-takes e ts rest s.0.reads
 module _ (limit : ℕ) (positive : 1 ≤ limit) where
   -- what a reader makes of an expression
   abbrev pub shown : Expression → Expression
-  shown e = kept (capped limit e)
+  shown e = kept_or_pi (capped limit e)
 
   deep_from-capped : (e : Expression) (left : ℕ) → deep_from left (capped limit e) ≡ first_deep limit (seen left (depth e) ∷ [])
   unfolding capped
@@ -279,7 +279,7 @@ module _ (limit : ℕ) (positive : 1 ≤ limit) where
   pub angle-sound : Sound limit shown SpellsAngle (angle_of limit)
   unfolding angle_of
   angle-sound ts r e =
-      mapped _ (sum_of limit ts) r e
+      mapped _ (read_sum limit ts) r e
       (λ a summed same.
       let f = sum_of-sound limit positive ts a.1 a.0 summed in
       subst (λ (x : Read Expression). Spelt limit shown SpellsAngle ts x) same
@@ -287,14 +287,14 @@ module _ (limit : ℕ) (positive : 1 ≤ limit) where
         it = f.e;
         found = seen (length ts) (depth f.e) ∷ [];
         spells = (f.spelt, refl);
-        value = ap kept f.is;
+        value = ap kept_or_pi f.is;
         deep = ap (deep_from (length ts)) f.is ∙ deep_from-capped f.e (length ts);
       }))
 
   pub angle-complete : Complete limit shown SpellsAngle (angle_of limit) NoSign
   unfolding angle_of
   angle-complete e ts rest found s ends =
-      ap (option_map (λ r. read (kept r.0) (deep_from (length ts) r.0) r.1)) (sum_of-spelt limit positive e ts rest s.0 ends)
+      ap (option_map (λ r. read (kept_or_pi r.0) (deep_from (length ts) r.0) r.1)) (sum_of-spelt limit positive e ts rest s.0 ends)
       ∙ ap (λ d. Some (read (shown e) d rest)) (deep_from-capped e (length ts) ∙ ap (first_deep limit) (sym s.1))
 
   pub angles-sound : (ts : List Symbol) (r : Read (List Expression)) → angles_of limit ts ≡ Some r
@@ -315,7 +315,7 @@ module _ (limit : ℕ) (positive : 1 ≤ limit) where
         deep = s.deep;
       })))
 
-  pub angles-complete : (es : List Expression) (ts rest : List Symbol) (found : List Seen) → SpellsList SpellsAngle es ts (mark Close ∷ rest) found
+  pub angles-complete : (es : List Expression) (ts rest : List Symbol) (found : List SeenExpression) → SpellsList SpellsAngle es ts (mark Close ∷ rest) found
       → angles_of limit ts ≡ Some (read (map shown es) (first_deep limit found) rest)
   unfolding angles_of
   angles-complete es ts rest found s =
@@ -325,7 +325,7 @@ module _ (limit : ℕ) (positive : 1 ≤ limit) where
 
 -- ---- heads of applications
 -- no expression begins with the end of a parenthesis
-reads-front : (e : Expression) (ts rest : List Symbol) → IsWritten e ts rest → skip Close ts ≡ None
+reads-front : (e : Expression) (ts rest : List Symbol) → SpellsExpression e ts rest → skip Close ts ≡ None
 reads-front (number value) ts rest s = elim s [ inl h ↦ ap (skip Close) h | inr h ↦ ap (skip Close) h ]
 reads-front pi ts rest s = ap (skip Close) s
 reads-front (param n) ts rest s = ap (skip Close) s
@@ -334,7 +334,7 @@ reads-front (paren part) ts rest s = ap (skip Close) s.1
 reads-front (call f part) ts rest s = ap (skip Close) s.1
 reads-front (binary b left right) ts rest s = reads-front left ts (sign b ∷ s.0) s.1
 
-angles-front : (es : List Expression) (ts rest : List Symbol) (found : List Seen) → SpellsList SpellsAngle es ts rest found → skip Close ts ≡ None
+angles-front : (es : List Expression) (ts rest : List Symbol) (found : List SeenExpression) → SpellsList SpellsAngle es ts rest found → skip Close ts ≡ None
 angles-front [] ts rest found s = absurd s
 angles-front (e ∷ es) ts rest found s = reads-front e ts s.0 s.3.0.reads
 
@@ -351,7 +351,7 @@ module _ (limit : ℕ) (positive : 1 ≤ limit) where
     pub bytes : List ℕ
     pub es : List Expression
     pub form : Form
-    pub found : List Seen
+    pub found : List SeenExpression
     pub spells : (args : List Arg) → SpellsForm form (application_of_head bytes es args) ts r.rest found
     pub value : r.value ≡ head bytes (map (shown limit positive) es)
     pub deep : r.deep ≡ first_deep limit found
@@ -457,21 +457,21 @@ module _ (limit : ℕ) (positive : 1 ≤ limit) where
   unfolding optional_of
   optional_of-nothing ts h = rw (h, optional_of) refl
 
-  head-complete : (form : Form) (a : Application) (ts rest : List Symbol) (found : List Seen) → SpellsForm form a ts rest found → skip Open rest ≡ None
+  head-complete : (form : Form) (a : Application) (ts rest : List Symbol) (found : List SeenExpression) → SpellsForm form a ts rest found → skip Open rest ≡ None
       → head_of limit ts ≡ Some (read (head a.gate (map (shown limit positive) a.angles)) (first_deep limit found) rest)
   unfolding head_of angles_of_u optional_of
   head-complete by_u a ts rest found s follows =
-      ap (head_of limit) s.2 ∙ ap (with_gate (codes "U")) (angles-complete limit positive a.angles s.1 rest found s.3)
+      ap (head_of limit) s.2 ∙ ap (with_gate_name (codes "U")) (angles-complete limit positive a.angles s.1 rest found s.3)
       ∙ ap (λ g. Some (read (head g (map (shown limit positive) a.angles)) (first_deep limit found) rest)) (sym s.0)
   head-complete by_cx a ts rest found s follows =
       ap (head_of limit) s.2 ∙ rw (s.0, s.1, s.3) refl
   head-complete alone a ts rest found s follows =
-      ap (head_of limit) s.1 ∙ ap (with_gate a.gate) (optional_of-nothing rest follows) ∙ rw (s.0, s.2) refl
+      ap (head_of limit) s.1 ∙ ap (with_gate_name a.gate) (optional_of-nothing rest follows) ∙ rw (s.0, s.2) refl
   head-complete empty a ts rest found s follows =
       ap (head_of limit) s.1 ∙ rw (s.0, s.2) refl
   head-complete listed a ts rest found s follows =
       ap (head_of limit) s.1
-      ∙ ap (with_gate a.gate) (listed_of (skip Close s.0) (angles-front a.angles s.0 (mark Close ∷ rest) found s.2)
+      ∙ ap (with_gate_name a.gate) (listed_of (skip Close s.0) (angles-front a.angles s.0 (mark Close ∷ rest) found s.2)
       ∙ angles-complete limit positive a.angles s.0 rest found s.2)
     where
       listed_of : (o : Option (List Symbol)) → o ≡ None → (elim o [ Some us ↦ Some (read [] None us) | None ↦ angles_of limit s.0 ]) ≡ angles_of limit s.0
@@ -495,7 +495,7 @@ module _ (limit : ℕ) (positive : 1 ≤ limit) where
       both_of _ (head_of limit ts) r e
       (λ h headed more. both_of _ (args_of plain h.rest) r more
       (λ args listed last.
-      let same : read (applied h.value args.value) h.deep args.rest ≡ r = cc in
+      let same : read (applied_head h.value args.value) h.deep args.rest ≡ r = cc in
       let s = head-sound limit positive ts h headed in
       let t = args-sound plain h.rest args listed in
       subst (λ (x : Read Application). Spelt limit shown_application (SpellsApplication plain) ts x) same
@@ -503,16 +503,16 @@ module _ (limit : ℕ) (positive : 1 ≤ limit) where
         it = application_of_head s.bytes s.es args.value;
         found = s.found;
         spells = (s.form, h.rest, s.spells args.value, t.0);
-        value = ap (λ g. applied g args.value) s.value;
+        value = ap (λ g. applied_head g args.value) s.value;
         deep = s.deep;
       })))
 
   pub application-complete : (plain : Bool) → Complete limit shown_application (SpellsApplication plain) (application_of limit plain) Any
   unfolding application_of
   application-complete plain a ts rest found s ends =
-      ap (option_and_then (λ h. option_and_then (λ args. Some (read (applied h.value args.value) h.deep args.rest)) (args_of plain h.rest)))
+      ap (option_and_then (λ h. option_and_then (λ args. Some (read (applied_head h.value args.value) h.deep args.rest)) (args_of plain h.rest)))
       (head-complete limit positive s.0 a ts s.1 found s.2 (args-front plain a.args s.1 rest s.3))
-      ∙ ap (option_and_then (λ args. Some (read (applied (head a.gate (map (shown limit positive) a.angles)) args.value) (first_deep limit found) args.rest)))
+      ∙ ap (option_and_then (λ args. Some (read (applied_head (head a.gate (map (shown limit positive) a.angles)) args.value) (first_deep limit found) args.rest)))
       (args-complete plain a.args s.1 rest s.3)
 
   pub barrier-sound : (plain : Bool) (ts : List Symbol) (r : Read Action) → barrier_of plain ts ≡ Some r
@@ -608,12 +608,12 @@ module _ (limit : ℕ) (positive : 1 ≤ limit) where
       ap (option_and_then (λ a. option_and_then (λ rest. Some (read (reset a.value) None rest)) (skip Semicolon a.rest))) (one-complete a ts Semicolon rest refl one)
 
   apply-sound : (plain : Bool) (ts : List Symbol) (r : Read Action) → with_apply (application_of limit plain ts) ≡ Some r
-      → (a : Application) × (found : List Seen) × SpellsApplication plain a ts r.rest found × (r.value ≡ apply (shown_application a)) × (r.deep ≡ first_deep limit found)
+      → (a : Application) × (found : List SeenExpression) × SpellsApplication plain a ts r.rest found × (r.value ≡ apply (shown_application a)) × (r.deep ≡ first_deep limit found)
   apply-sound plain ts r e =
       mapped (λ a. read (apply a.value) a.deep a.rest) (application_of limit plain ts) r e
       (λ a found same.
       let s = application-sound plain ts a found in
-      subst (λ (x : Read Action). (a : Application) × (found : List Seen) × SpellsApplication plain a ts x.rest found × (x.value ≡ apply (shown_application a)) × (x.deep ≡ first_deep limit found)) same
+      subst (λ (x : Read Action). (a : Application) × (found : List SeenExpression) × SpellsApplication plain a ts x.rest found × (x.value ≡ apply (shown_application a)) × (x.deep ≡ first_deep limit found)) same
       (s.it, s.found, s.spells, ap apply s.value, s.deep))
 
   by_application : (ts : List Symbol) (r : Read Action) → with_apply (application_of limit false ts) ≡ Some r → ActionSpelt ts r
@@ -635,7 +635,7 @@ module _ (limit : ℕ) (positive : 1 ≤ limit) where
   action-sound (t ∷ ts) r e = by_application (t ∷ ts) r e
 
   -- an application is read as one
-  by_form : (form : Form) (a : Application) (ts rest : List Symbol) (found : List Seen) → SpellsForm form a ts rest found
+  by_form : (form : Form) (a : Application) (ts rest : List Symbol) (found : List SeenExpression) → SpellsForm form a ts rest found
       → action_of limit ts ≡ with_apply (application_of limit false ts)
   unfolding action_of
   by_form by_u a ts rest found s = subst (λ (x : List Symbol). action_of limit x ≡ with_apply (application_of limit false x)) (sym s.2) refl
@@ -644,7 +644,7 @@ module _ (limit : ℕ) (positive : 1 ≤ limit) where
   by_form empty a ts rest found s = subst (λ (x : List Symbol). action_of limit x ≡ with_apply (application_of limit false x)) (sym s.1) refl
   by_form listed a ts rest found s = subst (λ (x : List Symbol). action_of limit x ≡ with_apply (application_of limit false x)) (sym s.1) refl
 
-  pub action-complete : (x : Action) (ts rest : List Symbol) (found : List Seen) → IsConditional x → SpellsAction x ts rest found
+  pub action-complete : (x : Action) (ts rest : List Symbol) (found : List SeenExpression) → IsConditional x → SpellsAction x ts rest found
       → action_of limit ts ≡ Some (read (shown_action x) (first_deep limit found) rest)
   unfolding action_of
   action-complete (apply a) ts rest found inner s = by_form s.0 a ts s.1 found s.2 ∙ ap with_apply (application-complete false a ts rest found s tt)
@@ -669,7 +669,7 @@ module _ (limit : ℕ) (positive : 1 ≤ limit) where
   item-sound (word k ∷ ts) r e = word_item-sound k ts r e
   item-sound (t ∷ ts) r e = item_by_application (t ∷ ts) r e
 
-  item_by_form : (form : Form) (a : Application) (ts rest : List Symbol) (found : List Seen) → SpellsForm form a ts rest found
+  item_by_form : (form : Form) (a : Application) (ts rest : List Symbol) (found : List SeenExpression) → SpellsForm form a ts rest found
       → item_of limit ts ≡ with_apply (application_of limit true ts)
   unfolding item_of
   item_by_form by_u a ts rest found s = subst (λ (x : List Symbol). item_of limit x ≡ with_apply (application_of limit true x)) (sym s.2) refl
@@ -687,23 +687,23 @@ module _ (limit : ℕ) (positive : 1 ≤ limit) where
   item-complete (reset a) ts rest found s ends = absurd s
 
 -- ---- how many symbols
-pub each-long : {A : Type 0} (R : Grammar A) → ((x : A) (ts rest : List Symbol) (found : List Seen) → R x ts rest found → length rest < length ts)
-    → (xs : List A) (ts rest : List Symbol) (found : List Seen) → SpellsEach R xs ts rest found → length rest ≤ length ts
+pub each-long : {A : Type 0} (R : Grammar A) → ((x : A) (ts rest : List Symbol) (found : List SeenExpression) → R x ts rest found → length rest < length ts)
+    → (xs : List A) (ts rest : List Symbol) (found : List SeenExpression) → SpellsEach R xs ts rest found → length rest ≤ length ts
 each-long R takes [] ts rest found s = let k : length ts ≡ length rest = ap length s.0 in omega arith
 each-long R takes (x ∷ xs) ts rest found s =
     let one = takes x ts s.0 s.1 s.3 in
     let more = each-long R takes xs s.0 rest s.2 s.4 in
     omega arith
 
-list-long : {A : Type 0} (R : Grammar A) → ((x : A) (ts rest : List Symbol) (found : List Seen) → R x ts rest found → length rest < length ts)
-    → (xs : List A) (ts rest : List Symbol) (found : List Seen) → SpellsList R xs ts rest found → length rest < length ts
+list-long : {A : Type 0} (R : Grammar A) → ((x : A) (ts rest : List Symbol) (found : List SeenExpression) → R x ts rest found → length rest < length ts)
+    → (xs : List A) (ts rest : List Symbol) (found : List SeenExpression) → SpellsList R xs ts rest found → length rest < length ts
 list-long R takes [] ts rest found s = absurd s
 list-long R takes (x ∷ xs) ts rest found s =
     let one = takes x ts s.0 s.1 s.3 in
     let more = each-long (BehindComma R) (λ y us vs f h. let k : length us ≡ suc (length h.0) = ap length h.1 in let l = takes y h.0 vs f h.2 in omega arith) xs s.0 rest s.2 s.4 in
     omega arith
 
-pub names-long : (ns : List (List ℕ)) (ts rest : List Symbol) (found : List Seen) → SpellsList SpellsName ns ts rest found → length rest < length ts
+pub names-long : (ns : List (List ℕ)) (ts rest : List Symbol) (found : List SeenExpression) → SpellsList SpellsName ns ts rest found → length rest < length ts
 names-long ns ts rest found s = list-long SpellsName (name-takes most_depth) ns ts rest found s
 
 args-long : (plain : Bool) (args : List Arg) (ts rest : List Symbol) → SpellsArgs plain args ts rest → length rest < length ts
@@ -712,7 +712,7 @@ args-long plain args ts rest s =
     let l : length (mark Semicolon ∷ rest) ≡ suc (length rest) = refl in
     omega arith
 
-form-long : (form : Form) (a : Application) (ts rest : List Symbol) (found : List Seen) → SpellsForm form a ts rest found → length rest < length ts
+form-long : (form : Form) (a : Application) (ts rest : List Symbol) (found : List SeenExpression) → SpellsForm form a ts rest found → length rest < length ts
 form-long by_u a ts rest found s =
     let k : length ts ≡ suc (suc (length s.1)) = ap length s.2 in
     let l = list-long SpellsAngle (angle-takes most_depth (λ e. e)) a.angles s.1 (mark Close ∷ rest) found s.3 in
@@ -727,25 +727,25 @@ form-long listed a ts rest found s =
     let m : length (mark Close ∷ rest) ≡ suc (length rest) = refl in
     omega arith
 
-application-long : (plain : Bool) (a : Application) (ts rest : List Symbol) (found : List Seen) → SpellsApplication plain a ts rest found → length rest < length ts
+application-long : (plain : Bool) (a : Application) (ts rest : List Symbol) (found : List SeenExpression) → SpellsApplication plain a ts rest found → length rest < length ts
 application-long plain a ts rest found s =
     let k = form-long s.0 a ts s.1 found s.2 in
     let l = args-long plain a.args s.1 rest s.3 in
     omega arith
 
-barrier-long : (plain : Bool) (args : List Arg) (ts rest : List Symbol) (found : List Seen) → SpellsBarrier plain args ts rest found → length rest < length ts
+barrier-long : (plain : Bool) (args : List Arg) (ts rest : List Symbol) (found : List SeenExpression) → SpellsBarrier plain args ts rest found → length rest < length ts
 barrier-long plain args ts rest found s =
     let k : length ts ≡ suc (length s.0) = ap length s.1 in
     let l = args-long plain args s.0 rest s.2 in
     omega arith
 
-pub item-long : (x : Action) (ts rest : List Symbol) (found : List Seen) → SpellsItem x ts rest found → length rest < length ts
+pub item-long : (x : Action) (ts rest : List Symbol) (found : List SeenExpression) → SpellsItem x ts rest found → length rest < length ts
 item-long (apply a) ts rest found s = application-long true a ts rest found s
 item-long (barrier args) ts rest found s = barrier-long true args ts rest found s
 item-long (measure q b) ts rest found s = absurd s
 item-long (reset a) ts rest found s = absurd s
 
-pub action-long : (x : Action) (ts rest : List Symbol) (found : List Seen) → SpellsAction x ts rest found → length rest < length ts
+pub action-long : (x : Action) (ts rest : List Symbol) (found : List SeenExpression) → SpellsAction x ts rest found → length rest < length ts
 action-long (apply a) ts rest found s = application-long false a ts rest found s
 action-long (barrier args) ts rest found s = barrier-long false args ts rest found s
 action-long (measure q b) ts rest found s =

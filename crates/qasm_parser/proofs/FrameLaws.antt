@@ -13,7 +13,7 @@ use Rattle.qasm_parser.specs.declared.frames.Frame.TheVariants.{Minus, Paren, Ca
 use Rattle.qasm_parser.specs.declared.part.Part.{Part}
 use Rattle.qasm_parser.specs.Frames.{first_left, frame_with, frames_of}
 use Rattle.qasm_parser.specs.Machine.{before, called, closed, closes, minus, opened, reduce, reduced, tightness, Frame as SpecFrame}
-use Rattle.qasm_parser.specs.Parts.{part_of}
+use Rattle.qasm_parser.specs.Parts.{part_expression}
 use Rattle.qasm_parser.specs.Tree.{Expression}
 
 back-push : {X : Type 0} (xs : List X) (x : X) → reverse (xs ++ x ∷ []) ≡ x ∷ reverse xs
@@ -29,7 +29,7 @@ pub stack-call : (ks : List Frame) (ls : List (Option Part)) (f : Function) → 
 stack-call ks ls f = ap (λ z. frames_of z ls) (back-push ks (Call f))
 
 pub stack-left : (ks : List Frame) (ls : List (Option Part)) (s : Binary) (p : Option Part)
-    → frames_of (reverse (ks ++ Left s ∷ [])) (reverse (ls ++ p ∷ [])) ≡ before s (part_of p) ∷ frames_of (reverse ks) (reverse ls)
+    → frames_of (reverse (ks ++ Left s ∷ [])) (reverse (ls ++ p ∷ [])) ≡ before s (part_expression p) ∷ frames_of (reverse ks) (reverse ls)
 stack-left ks ls s p = ap (λ z. frames_of z (reverse (ls ++ p ∷ []))) (back-push ks (Left s))
     ∙ ap (λ z. before s (first_left z) ∷ frames_of (reverse ks) (drop 1 z)) (back-push ls p)
 
@@ -40,7 +40,7 @@ stack-pop_left ks ls rest s p e f = ap (λ z. frames_of z (reverse ls)) (back-pu
     ∙ ap (λ z. before s z ∷ frames_of (reverse ks) (drop 1 (reverse ls))) (sym e)
     ∙ ap (λ z. before s p ∷ frames_of (reverse ks) z) (sym f)
 
-pub left-first : (ls : List (Option Part)) (p : Option Part) → part_of p ≡ first_left (reverse (ls ++ p ∷ []))
+pub left-first : (ls : List (Option Part)) (p : Option Part) → part_expression p ≡ first_left (reverse (ls ++ p ∷ []))
 left-first ls p = ap first_left (sym (back-push ls p))
 
 pub left-rest : (ls : List (Option Part)) (p : Option Part) → reverse ls ≡ drop 1 (reverse (ls ++ p ∷ []))

@@ -7,7 +7,7 @@ use Rattle.qasm_parser.specs.declared.symbols.Keyword.{Keyword}
 use Rattle.qasm_parser.specs.declared.symbols.Keyword.TheVariants.{OpenQasm, Include, Qreg, Creg, Gate, Opaque, Measure, Reset, If, Barrier}
 use Rattle.qasm_parser.specs.declared.symbols.Mark.TheVariants.{Comma, CloseBrace}
 use Rattle.qasm_parser.specs.Symbols.{Symbol}
-use Rattle.qasm_parser.specs.Reading.{begins_with, begins_word}
+use Rattle.qasm_parser.specs.Reading.{begins_with_mark, begins_word}
 use Rattle.qasm_parser.specs.Ways.{past, stuck, Shape, one, choice, many, until, sum, this_mark, this_word, a_name, the_end, is_end, onward, walk}
 use Rattle.qasm_parser.specs.Shapes.{action_shape, angles_shape, application_shape, arg_shape, args_shape, body_shape, bracketed_shape, conditional_shape, gate_shape, head_shape, header_shape, include_shape, item_shape, listed_shape, measure_shape, names_shape, opaque_shape, optional_shape, params_shape, register_shape, reset_shape, statement_shape, tree_shape, u_shape, version_shape}
 use Rattle.qasm_parser.proofs.WayForms.{fine, stops}
@@ -40,66 +40,66 @@ fine-tree = refl
 
 -- ---- lists with commas
 module _ (each : Shape) (f : fine (many (this_mark Comma) each) ≡ true) where
-  comma-on : (ts mid us : List Symbol) → begins_with Comma ts ≡ true → mid ≡ drop 1 ts → walk each mid ≡ past us
+  comma-on : (ts mid us : List Symbol) → begins_with_mark Comma ts ≡ true → mid ≡ drop 1 ts → walk each mid ≡ past us
       → walk (many (this_mark Comma) each) us ≡ walk (many (this_mark Comma) each) ts
   comma-on ts mid us c m e = sym (many-on sum_laws (this_mark Comma) each f ts us c (ap (walk each) (sym m) ∙ e))
 
-  comma-stuck : (ts mid : List Symbol) (left : ℕ) → begins_with Comma ts ≡ true → mid ≡ drop 1 ts → walk each mid ≡ stuck left
+  comma-stuck : (ts mid : List Symbol) (left : ℕ) → begins_with_mark Comma ts ≡ true → mid ≡ drop 1 ts → walk each mid ≡ stuck left
       → walk (many (this_mark Comma) each) ts ≡ stuck left
   comma-stuck ts mid left c m e = many-stuck (this_mark Comma) each ts left c (ap (walk each) (sym m) ∙ e)
 
-comma-off : (each : Shape) (ts : List Symbol) → begins_with Comma ts ≡ false → walk (many (this_mark Comma) each) ts ≡ past ts
+comma-off : (each : Shape) (ts : List Symbol) → begins_with_mark Comma ts ≡ false → walk (many (this_mark Comma) each) ts ≡ past ts
 comma-off each ts c = many-off (this_mark Comma) each ts c
 
-pub names-on : (ts mid us : List Symbol) → begins_with Comma ts ≡ true → mid ≡ drop 1 ts → walk (one a_name) mid ≡ past us
+pub names-on : (ts mid us : List Symbol) → begins_with_mark Comma ts ≡ true → mid ≡ drop 1 ts → walk (one a_name) mid ≡ past us
     → walk (many (this_mark Comma) (one a_name)) us ≡ walk (many (this_mark Comma) (one a_name)) ts
 names-on ts mid us c m e = comma-on (one a_name) fine-names ts mid us c m e
 
-pub names-stuck : (ts mid : List Symbol) (left : ℕ) → begins_with Comma ts ≡ true → mid ≡ drop 1 ts → walk (one a_name) mid ≡ stuck left
+pub names-stuck : (ts mid : List Symbol) (left : ℕ) → begins_with_mark Comma ts ≡ true → mid ≡ drop 1 ts → walk (one a_name) mid ≡ stuck left
     → walk (many (this_mark Comma) (one a_name)) ts ≡ stuck left
 names-stuck ts mid left c m e = comma-stuck (one a_name) fine-names ts mid left c m e
 
-pub names-off : (ts : List Symbol) → begins_with Comma ts ≡ false → walk (many (this_mark Comma) (one a_name)) ts ≡ past ts
+pub names-off : (ts : List Symbol) → begins_with_mark Comma ts ≡ false → walk (many (this_mark Comma) (one a_name)) ts ≡ past ts
 names-off ts c = comma-off (one a_name) ts c
 
 pub ruleset names = (names-on, names-stuck, names-off)
 
-pub args-on : (plain : Bool) (ts mid us : List Symbol) → begins_with Comma ts ≡ true → mid ≡ drop 1 ts → walk (arg_shape plain) mid ≡ past us
+pub args-on : (plain : Bool) (ts mid us : List Symbol) → begins_with_mark Comma ts ≡ true → mid ≡ drop 1 ts → walk (arg_shape plain) mid ≡ past us
     → walk (many (this_mark Comma) (arg_shape plain)) us ≡ walk (many (this_mark Comma) (arg_shape plain)) ts
 args-on plain ts mid us c m e = comma-on (arg_shape plain) (fine-args plain) ts mid us c m e
 
-pub args-stuck : (plain : Bool) (ts mid : List Symbol) (left : ℕ) → begins_with Comma ts ≡ true → mid ≡ drop 1 ts → walk (arg_shape plain) mid ≡ stuck left
+pub args-stuck : (plain : Bool) (ts mid : List Symbol) (left : ℕ) → begins_with_mark Comma ts ≡ true → mid ≡ drop 1 ts → walk (arg_shape plain) mid ≡ stuck left
     → walk (many (this_mark Comma) (arg_shape plain)) ts ≡ stuck left
 args-stuck plain ts mid left c m e = comma-stuck (arg_shape plain) (fine-args plain) ts mid left c m e
 
-pub args-off : (plain : Bool) (ts : List Symbol) → begins_with Comma ts ≡ false → walk (many (this_mark Comma) (arg_shape plain)) ts ≡ past ts
+pub args-off : (plain : Bool) (ts : List Symbol) → begins_with_mark Comma ts ≡ false → walk (many (this_mark Comma) (arg_shape plain)) ts ≡ past ts
 args-off plain ts c = comma-off (arg_shape plain) ts c
 
 pub ruleset args = (args-on, args-stuck, args-off)
 
-pub angles-on : (ts mid us : List Symbol) → begins_with Comma ts ≡ true → mid ≡ drop 1 ts → walk sum mid ≡ past us
+pub angles-on : (ts mid us : List Symbol) → begins_with_mark Comma ts ≡ true → mid ≡ drop 1 ts → walk sum mid ≡ past us
     → walk (many (this_mark Comma) sum) us ≡ walk (many (this_mark Comma) sum) ts
 angles-on ts mid us c m e = comma-on sum fine-sums ts mid us c m e
 
-pub angles-stuck : (ts mid : List Symbol) (left : ℕ) → begins_with Comma ts ≡ true → mid ≡ drop 1 ts → walk sum mid ≡ stuck left
+pub angles-stuck : (ts mid : List Symbol) (left : ℕ) → begins_with_mark Comma ts ≡ true → mid ≡ drop 1 ts → walk sum mid ≡ stuck left
     → walk (many (this_mark Comma) sum) ts ≡ stuck left
 angles-stuck ts mid left c m e = comma-stuck sum fine-sums ts mid left c m e
 
-pub angles-off : (ts : List Symbol) → begins_with Comma ts ≡ false → walk (many (this_mark Comma) sum) ts ≡ past ts
+pub angles-off : (ts : List Symbol) → begins_with_mark Comma ts ≡ false → walk (many (this_mark Comma) sum) ts ≡ past ts
 angles-off ts c = comma-off sum ts c
 
 pub ruleset angles = (angles-on, angles-stuck, angles-off)
 
 -- ---- items and statements
-pub items-on : (ts us : List Symbol) → begins_with CloseBrace ts ≡ false → walk item_shape ts ≡ past us
+pub items-on : (ts us : List Symbol) → begins_with_mark CloseBrace ts ≡ false → walk item_shape ts ≡ past us
     → walk (until (this_mark CloseBrace) item_shape) us ≡ walk (until (this_mark CloseBrace) item_shape) ts
 items-on ts us c e = sym (until-on sum_laws (this_mark CloseBrace) item_shape fine-items ts us c e)
 
-pub items-stuck : (ts : List Symbol) (left : ℕ) → begins_with CloseBrace ts ≡ false → walk item_shape ts ≡ stuck left
+pub items-stuck : (ts : List Symbol) (left : ℕ) → begins_with_mark CloseBrace ts ≡ false → walk item_shape ts ≡ stuck left
     → walk (until (this_mark CloseBrace) item_shape) ts ≡ stuck left
 items-stuck ts left c e = until-stuck (this_mark CloseBrace) item_shape ts left c e
 
-pub items-off : (ts : List Symbol) → begins_with CloseBrace ts ≡ true → walk (until (this_mark CloseBrace) item_shape) ts ≡ past ts
+pub items-off : (ts : List Symbol) → begins_with_mark CloseBrace ts ≡ true → walk (until (this_mark CloseBrace) item_shape) ts ≡ past ts
 items-off ts c = until-off (this_mark CloseBrace) item_shape ts c
 
 pub ruleset items = (items-on, items-stuck, items-off)

@@ -14,7 +14,7 @@ use Rattle.std.proofs.lemmas.Bool.{or_cases}
 use Rattle.std.proofs.lemmas.List.Elements.{All-from_recursion, recursion_from_All}
 use Rattle.std.proofs.lemmas.List.{length-map}
 use Rattle.angle_fraction.specs.declared.signs.Function.{Function}
-use Rattle.qasm_lexer.specs.Forms.{Bytes, IsAllowed, IsOfKind, IsWord, OneOf, capitals}
+use Rattle.qasm_lexer.specs.Forms.{Bytes, IsAllowedWord, IsOfKind, IsWord, OneOf, capitals}
 use Rattle.qasm_lexer.specs.Names.{IsName, reserved}
 use Rattle.qasm_lexer.specs.Tokens.{IsTokenOf, bytes_of}
 use Rattle.qasm_lexer.specs.declared.Kind.{Kind}
@@ -28,8 +28,8 @@ use Rattle.qasm_parser.specs.declared.symbols.Mark.TheVariants.{Comma, Semicolon
 use Rattle.qasm_parser.specs.DeclaredNames.{HasGateNames, HasNames}
 use Rattle.qasm_parser.specs.Symbols.{Symbol, name, whole, real, mark, sign, function_of, function_or_name, keyword_of, mark_of, mark_symbol, sign_of, sign_or_other, symbol_by, symbol_of, symbols, word_symbol}
 use Rattle.qasm_parser.specs.Tree.{Expression, number, pi, param, negated, paren, call, binary, Application, Action, apply, measure, reset, barrier, Definition, Statement, include, register, gate, opaque, conditional, act, Tree, most_depth}
-use Rattle.qasm_parser.specs.Expressions.{IsWritten}
-use Rattle.qasm_parser.specs.Spelling.{BehindComma, Form, by_u, by_cx, alone, empty, listed, Params, bare, vacant, given, Seen, Grammar, SpellsAction, SpellsAngle, SpellsApplication, SpellsArg, SpellsArgs, SpellsBarrier, SpellsEach, SpellsForm, SpellsItem, SpellsList, SpellsName, SpellsNames, SpellsParams, SpellsStatement, SpellsTree, index_symbols}
+use Rattle.qasm_parser.specs.Expressions.{SpellsExpression}
+use Rattle.qasm_parser.specs.Spelling.{BehindComma, Form, by_u, by_cx, alone, empty, listed, Params, bare, vacant, given, SeenExpression, Grammar, SpellsAction, SpellsAngle, SpellsApplication, SpellsArg, SpellsArgs, SpellsBarrier, SpellsEach, SpellsForm, SpellsItem, SpellsList, SpellsName, SpellsNames, SpellsParams, SpellsStatement, SpellsTree, index_symbols}
 use Rattle.qasm_parser.specs.Parsing.{Spells}
 use Rattle.qasm_parser.proofs.StatementLaws.{statement-long}
 
@@ -59,11 +59,11 @@ capitals-taken = ((λ e f. cc), ((λ e f. cc), ((λ e f. cc), tt)))
 small-or-capital : (b : ℕ) → is_ascii_alphabetic b ≡ true → (is_ascii_uppercase b ≡ true) ⊎ (is_ascii_lowercase b ≡ true)
 small-or-capital b h = or_cases _ _ h
 
-free-name : (w : Bytes) → IsWord w → IsAllowed w → keyword_of w ≡ None → function_of w ≡ None → IsName w
+free-name : (w : Bytes) → IsWord w → IsAllowedWord w → keyword_of w ≡ None → function_of w ≡ None → IsName w
 free-name w k allowed e f = by_case (small-or-capital k.0 k.3)
   where
     by_case : (is_ascii_uppercase k.0 ≡ true) ⊎ (is_ascii_lowercase k.0 ≡ true) → IsName w
-    by_case (inl up) = absurd (one_of IsTaken capitals w capitals-taken (subst (λ (z : Bytes). OneOf capitals z) (sym k.2) (subst IsAllowed k.2 allowed up)) e f)
+    by_case (inl up) = absurd (one_of IsTaken capitals w capitals-taken (subst (λ (z : Bytes). OneOf capitals z) (sym k.2) (subst IsAllowedWord k.2 allowed up)) e f)
     by_case (inr small) = record {
       first = k.0;
       more = k.1;
@@ -91,7 +91,7 @@ unfolding mark_symbol
 mark_symbol-fine w (Some m) = tt
 mark_symbol-fine w None = or_other-fine (sign_of w)
 
-kind-fine : (kind : Kind) (w : Bytes) → (kind ≡ Word → IsWord w) → IsAllowed w → IsFine (symbol_by kind w)
+kind-fine : (kind : Kind) (w : Bytes) → (kind ≡ Word → IsWord w) → IsAllowedWord w → IsFine (symbol_by kind w)
 unfolding symbol_by
 kind-fine Word w h allowed = word_symbol-fine w (keyword_of w) refl (free-name w (h refl) allowed)
 kind-fine Whole w h allowed = tt
@@ -120,7 +120,7 @@ symbols-fine text tokens h = symbols-by text tokens (recursion_from_All (IsToken
 at : (ts us : List Symbol) → ts ≡ us → AllFine ts → AllFine us
 at ts us e h = subst AllFine e h
 
-expression-gives : (e : Expression) (ts rest : List Symbol) → IsWritten e ts rest → AllFine ts → AllFine rest
+expression-gives : (e : Expression) (ts rest : List Symbol) → SpellsExpression e ts rest → AllFine ts → AllFine rest
 expression-gives (number value) ts rest (inl e) h = (at ts (whole value ∷ rest) e h).1
 expression-gives (number value) ts rest (inr e) h = (at ts (real value ∷ rest) e h).1
 expression-gives pi ts rest e h = (at ts _ e h).1
@@ -131,9 +131,9 @@ expression-gives (call f part) ts rest s h = (expression-gives part s.0 (mark Cl
 expression-gives (binary b left right) ts rest s h = expression-gives right s.0 rest s.2 (expression-gives left ts (sign b ∷ s.0) s.1 h).1
 
 abbrev pub Gives : {A : Type 0} → (A → Type 0) → Grammar A → Type 0
-Gives {A} Q R = (x : A) (ts rest : List Symbol) (found : List Seen) → R x ts rest found → AllFine ts → Q x × AllFine rest
+Gives {A} Q R = (x : A) (ts rest : List Symbol) (found : List SeenExpression) → R x ts rest found → AllFine ts → Q x × AllFine rest
 
-each-gives : {A : Type 0} (Q : A → Type 0) (R : Grammar A) → Gives Q R → (xs : List A) (ts rest : List Symbol) (found : List Seen) → SpellsEach R xs ts rest found
+each-gives : {A : Type 0} (Q : A → Type 0) (R : Grammar A) → Gives Q R → (xs : List A) (ts rest : List Symbol) (found : List SeenExpression) → SpellsEach R xs ts rest found
     → AllFine ts → AllByRecursion Q xs × AllFine rest
 each-gives Q R gives [] ts rest found s h = (tt, at ts rest s.0 h)
 each-gives Q R gives (x ∷ xs) ts rest found s h =
@@ -141,7 +141,7 @@ each-gives Q R gives (x ∷ xs) ts rest found s h =
     let more = each-gives Q R gives xs s.0 rest s.2 s.4 one.1 in
     ((one.0, more.0), more.1)
 
-list-gives : {A : Type 0} (Q : A → Type 0) (R : Grammar A) → Gives Q R → (xs : List A) (ts rest : List Symbol) (found : List Seen) → SpellsList R xs ts rest found
+list-gives : {A : Type 0} (Q : A → Type 0) (R : Grammar A) → Gives Q R → (xs : List A) (ts rest : List Symbol) (found : List SeenExpression) → SpellsList R xs ts rest found
     → AllFine ts → AllByRecursion Q xs × AllFine rest
 list-gives Q R gives [] ts rest found s h = absurd s
 list-gives Q R gives (x ∷ xs) ts rest found s h =
@@ -165,20 +165,20 @@ arg-gives plain a ts rest found s h = (tt, index-gives a.index rest (at ts (name
 args-gives : (plain : Bool) (args : List Arg) (ts rest : List Symbol) → SpellsArgs plain args ts rest → AllFine ts → AllFine rest
 args-gives plain args ts rest s h = (list-gives (λ a. ⊤) (SpellsArg plain) (arg-gives plain) args ts (mark Semicolon ∷ rest) [] s h).1.1
 
-form-gives : (form : Form) (a : Application) (ts rest : List Symbol) (found : List Seen) → SpellsForm form a ts rest found → AllFine ts → AllFine rest
+form-gives : (form : Form) (a : Application) (ts rest : List Symbol) (found : List SeenExpression) → SpellsForm form a ts rest found → AllFine ts → AllFine rest
 form-gives by_u a ts rest found s h = (list-gives (λ e. ⊤) SpellsAngle angle-gives a.angles s.1 (mark Close ∷ rest) found s.3 (at ts _ s.2 h).1.1).1.1
 form-gives by_cx a ts rest found s h = (at ts _ s.2 h).1
 form-gives alone a ts rest found s h = (at ts (name a.gate ∷ rest) s.1 h).1
 form-gives empty a ts rest found s h = (at ts _ s.1 h).1.1.1
 form-gives listed a ts rest found s h = (list-gives (λ e. ⊤) SpellsAngle angle-gives a.angles s.0 (mark Close ∷ rest) found s.2 (at ts _ s.1 h).1.1).1.1
 
-application-gives : (plain : Bool) (a : Application) (ts rest : List Symbol) (found : List Seen) → SpellsApplication plain a ts rest found → AllFine ts → AllFine rest
+application-gives : (plain : Bool) (a : Application) (ts rest : List Symbol) (found : List SeenExpression) → SpellsApplication plain a ts rest found → AllFine ts → AllFine rest
 application-gives plain a ts rest found s h = args-gives plain a.args s.1 rest s.3 (form-gives s.0 a ts s.1 found s.2 h)
 
-barrier-gives : (plain : Bool) (args : List Arg) (ts rest : List Symbol) (found : List Seen) → SpellsBarrier plain args ts rest found → AllFine ts → AllFine rest
+barrier-gives : (plain : Bool) (args : List Arg) (ts rest : List Symbol) (found : List SeenExpression) → SpellsBarrier plain args ts rest found → AllFine ts → AllFine rest
 barrier-gives plain args ts rest found s h = args-gives plain args s.0 rest s.2 (at ts _ s.1 h).1
 
-action-gives : (x : Action) (ts rest : List Symbol) (found : List Seen) → SpellsAction x ts rest found → AllFine ts → AllFine rest
+action-gives : (x : Action) (ts rest : List Symbol) (found : List SeenExpression) → SpellsAction x ts rest found → AllFine ts → AllFine rest
 action-gives (apply a) ts rest found s h = application-gives false a ts rest found s h
 action-gives (measure q b) ts rest found s h =
     let one = arg-gives false q s.0 (mark Arrow ∷ s.1) [] s.3 (at ts _ s.2 h).1 in
@@ -227,23 +227,23 @@ statement-gives (conditional bytes value inner) ts rest found s h =
     (tt, action-gives inner s.0 rest found s.3 (at ts _ s.1 h).1.1.1.1.1.1)
 statement-gives (act x) ts rest found s h = (tt, action-gives x ts rest found s h)
 
-tree-gives : (t : Tree) (ts : List Symbol) (found : List Seen) → SpellsTree t ts found → AllFine ts → All (HasNames IsName) t.list
+tree-gives : (t : Tree) (ts : List Symbol) (found : List SeenExpression) → SpellsTree t ts found → AllFine ts → All (HasNames IsName) t.list
 tree-gives t ts found s h =
     All-from_recursion (HasNames IsName) t.list (each-gives (HasNames IsName) SpellsStatement statement-gives t.list s.0 [] found s.2 (at ts _ s.1 h).1.1.1).0
 
-pub tree-names : (text : List ℕ) (tokens : List Token) (t : Tree) (found : List Seen) → All (IsTokenOf text) tokens → Spells text tokens t found
+pub tree-names : (text : List ℕ) (tokens : List Token) (t : Tree) (found : List SeenExpression) → All (IsTokenOf text) tokens → Spells text tokens t found
     → All (HasNames IsName) t.list
 tree-names text tokens t found h s = tree-gives t (symbols text tokens) found s (symbols-fine text tokens h)
 
 -- ---- sizes
-each-few : (xs : List Statement) (ts rest : List Symbol) (found : List Seen) → SpellsEach SpellsStatement xs ts rest found → length xs + length rest ≤ length ts
+each-few : (xs : List Statement) (ts rest : List Symbol) (found : List SeenExpression) → SpellsEach SpellsStatement xs ts rest found → length xs + length rest ≤ length ts
 each-few [] ts rest found s = let k : length ts ≡ length rest = ap length s.0 in omega arith
 each-few (x ∷ xs) ts rest found s =
     let one = statement-long most_depth (lit≤ tt) x ts s.0 s.1 s.3 in
     let more = each-few xs s.0 rest s.2 s.4 in
     omega arith
 
-pub few_statements : (text : List ℕ) (tokens : List Token) (t : Tree) (found : List Seen) → Spells text tokens t found → length t.list ≤ length tokens
+pub few_statements : (text : List ℕ) (tokens : List Token) (t : Tree) (found : List SeenExpression) → Spells text tokens t found → length t.list ≤ length tokens
 few_statements text tokens t found s =
     let size : length (symbols text tokens) ≡ length tokens = length-map tokens (symbol_of text) in
     let all = ap length s.1 in

@@ -11,34 +11,34 @@ use Rattle.std.proofs.lemmas.Bool.{cases_eq}
 use Rattle.angle_fraction.specs.Fraction.{Fraction, fraction}
 use Rattle.std.proofs.lemmas.Bool.Decides.{nat_tests}
 use Rattle.qasm_lexer.specs.declared.Token.{Token}
-use Rattle.qasm_parser.specs.Symbols.{Symbol, mark, place_of, symbols}
+use Rattle.qasm_parser.specs.Symbols.{Symbol, mark, token_place, symbols}
 use Rattle.qasm_parser.specs.declared.ParseFault.{ParseFault}
 use Rattle.qasm_parser.specs.declared.ParseFault.TheVariants.{Syntax, Version, Depth, NoMemory}
 use Rattle.qasm_parser.specs.declared.symbols.Mark.TheVariants.{CloseBrace, Close}
 use Rattle.qasm_parser.specs.Tree.{depth, Application, apply, measure, reset, barrier, definition, include, register, gate, opaque, conditional, act, Tree, most_depth}
 use Rattle.qasm_parser.specs.Machine.{capped}
-use Rattle.qasm_parser.specs.Spelling.{BehindComma, Form, by_u, by_cx, alone, empty, listed, Seen, Grammar, SpellsAction, SpellsAngle, SpellsApplication, SpellsEach, SpellsForm, SpellsItem, SpellsList, SpellsStatement, SpellsTree, first_deep}
-use Rattle.qasm_parser.specs.Reading.{Read, first_of, kept, read, tree_of}
+use Rattle.qasm_parser.specs.Spelling.{BehindComma, Form, by_u, by_cx, alone, empty, listed, SeenExpression, Grammar, SpellsAction, SpellsAngle, SpellsApplication, SpellsEach, SpellsForm, SpellsItem, SpellsList, SpellsStatement, SpellsTree, first_deep}
+use Rattle.qasm_parser.specs.Reading.{Read, first_of, kept_or_pi, read, tree_of}
 use Rattle.qasm_parser.specs.Parsing.{IsParseFault, IsProgram, first_deep_of, real_place, two, Spells}
 use Rattle.qasm_parser.proofs.RepeatLaws.{first_deep-append}
 use Rattle.qasm_parser.proofs.FormLaws.{shown, shown_action, shown_application}
 use Rattle.qasm_parser.specs.Shapes.{tree_shape}
-use Rattle.qasm_parser.specs.Ways.{Outcome, past, stuck, walk}
+use Rattle.qasm_parser.specs.Ways.{WayOutcome, past, stuck, walk}
 use Rattle.qasm_parser.proofs.ReaderWays.{rests, tree-agrees, went}
 use Rattle.qasm_parser.proofs.SumAgrees.{sums-agree}
 use Rattle.qasm_parser.proofs.SyntaxPlaces.{place-once, place-there, unspelt}
 use Rattle.qasm_parser.proofs.StatementLaws.{shown_statement, shown_tree, tree-complete, tree-sound}
 
 -- ---- limits
-abbrev pub high : List Seen → ℕ
+abbrev pub high : List SeenExpression → ℕ
 high [] = 1
 high (s ∷ found) = max s.depth (high found)
 
-high-some : (found : List Seen) → 1 ≤ high found
+high-some : (found : List SeenExpression) → 1 ≤ high found
 high-some [] = omega arith
 high-some (s ∷ found) = let h = high-some found in omega arith
 
-high-none : (limit : ℕ) (found : List Seen) → high found ≤ limit → first_deep limit found ≡ None
+high-none : (limit : ℕ) (found : List SeenExpression) → high found ≤ limit → first_deep limit found ≡ None
 high-none limit [] h = refl
 high-none limit (s ∷ found) h =
     let t : nat_le s.depth limit ≡ true = grind (arith, nat_tests) in
@@ -49,7 +49,7 @@ none-both None b e = (refl, e)
 none-both (Some a) b e = cc
 
 -- nothing is too deep in a part where nothing is too deep in the whole
-parts : (limit : ℕ) (here later found : List Seen) → found ≡ here ++ later → first_deep limit found ≡ None
+parts : (limit : ℕ) (here later found : List SeenExpression) → found ≡ here ++ later → first_deep limit found ≡ None
     → (first_deep limit here ≡ None) × (first_deep limit later ≡ None)
 parts limit here later found is e =
     none-both (first_deep limit here) (first_deep limit later) (sym (first_deep-append limit here later) ∙ ap (first_deep limit) (sym is) ∙ e)
@@ -57,16 +57,16 @@ parts limit here later found is e =
 -- ---- what is read as it is
 module _ (limit : ℕ) (positive : 1 ≤ limit) where
   abbrev Kept : {A : Type 0} → (A → A) → Grammar A → Type 0
-  Kept {A} cap R = (x : A) (ts rest : List Symbol) (found : List Seen) → R x ts rest found → first_deep limit found ≡ None → cap x ≡ x
+  Kept {A} cap R = (x : A) (ts rest : List Symbol) (found : List SeenExpression) → R x ts rest found → first_deep limit found ≡ None → cap x ≡ x
 
-  each-shown : {A : Type 0} (cap : A → A) (R : Grammar A) → Kept cap R → (xs : List A) (ts rest : List Symbol) (found : List Seen) → SpellsEach R xs ts rest found
+  each-shown : {A : Type 0} (cap : A → A) (R : Grammar A) → Kept cap R → (xs : List A) (ts rest : List Symbol) (found : List SeenExpression) → SpellsEach R xs ts rest found
       → first_deep limit found ≡ None → map cap xs ≡ xs
   each-shown cap R kept [] ts rest found s e = refl
   each-shown cap R kept (x ∷ xs) ts rest found s e =
       let p = parts limit s.1 s.2 found s.5 e in
       ap (λ y. y ∷ map cap xs) (kept x ts s.0 s.1 s.3 p.0) ∙ ap (λ ys. x ∷ ys) (each-shown cap R kept xs s.0 rest s.2 s.4 p.1)
 
-  list-shown : {A : Type 0} (cap : A → A) (R : Grammar A) → Kept cap R → (xs : List A) (ts rest : List Symbol) (found : List Seen) → SpellsList R xs ts rest found
+  list-shown : {A : Type 0} (cap : A → A) (R : Grammar A) → Kept cap R → (xs : List A) (ts rest : List Symbol) (found : List SeenExpression) → SpellsList R xs ts rest found
       → first_deep limit found ≡ None → map cap xs ≡ xs
   list-shown cap R kept [] ts rest found s e = absurd s
   list-shown cap R kept (x ∷ xs) ts rest found s e =
@@ -78,11 +78,11 @@ module _ (limit : ℕ) (positive : 1 ≤ limit) where
   unfolding capped
   angle-shown e ts rest found s none = by_test (nat_le (depth e) limit) (sym (ap (first_deep limit) s.1) ∙ none)
     where
-      by_test : (b : Bool) → (if b then None else Some (length ts)) ≡ None → kept (if b then Some e else None) ≡ e
+      by_test : (b : Bool) → (if b then None else Some (length ts)) ≡ None → kept_or_pi (if b then Some e else None) ≡ e
       by_test true h = refl
       by_test false h = cc
 
-  form-shown : (form : Form) (a : Application) (ts rest : List Symbol) (found : List Seen) → SpellsForm form a ts rest found → first_deep limit found ≡ None
+  form-shown : (form : Form) (a : Application) (ts rest : List Symbol) (found : List SeenExpression) → SpellsForm form a ts rest found → first_deep limit found ≡ None
       → map (shown limit positive) a.angles ≡ a.angles
   form-shown by_u a ts rest found s e = list-shown (shown limit positive) SpellsAngle angle-shown a.angles s.1 (mark Close ∷ rest) found s.3 e
   form-shown by_cx a ts rest found s e = rw s.1 refl
@@ -115,7 +115,7 @@ module _ (limit : ℕ) (positive : 1 ≤ limit) where
   statement-shown (conditional bytes value inner) ts rest found s e = ap (conditional bytes value) (action-shown inner s.0 rest found s.3 e)
   statement-shown (act x) ts rest found s e = ap act (action-shown x ts rest found s e)
 
-  pub tree-shown : (t : Tree) (ts : List Symbol) (found : List Seen) → SpellsTree t ts found → first_deep limit found ≡ None → shown_tree limit positive t ≡ t
+  pub tree-shown : (t : Tree) (ts : List Symbol) (found : List SeenExpression) → SpellsTree t ts found → first_deep limit found ≡ None → shown_tree limit positive t ≡ t
   tree-shown t ts found s e =
       ap (λ xs. record { version = t.version; list = xs }) (each-shown (shown_statement limit positive) SpellsStatement statement-shown t.list s.0 [] found s.2 e)
 
@@ -125,7 +125,7 @@ same-read a b d e ts h =
     let same : read a d ts ≡ read b e ts = cc in
     (ap (λ r. r.value) same, ap (λ r. r.deep) same)
 
-pub only_one : (ts : List Symbol) (a b : Tree) (f g : List Seen) → SpellsTree a ts f → SpellsTree b ts g → (a ≡ b) × (first_deep_of f ≡ first_deep_of g)
+pub only_one : (ts : List Symbol) (a b : Tree) (f g : List SeenExpression) → SpellsTree a ts f → SpellsTree b ts g → (a ≡ b) × (first_deep_of f ≡ first_deep_of g)
 only_one ts a b f g s t =
     let limit : ℕ = max (high f) (high g) in
     let some = high-some f in
@@ -154,7 +154,7 @@ other_version text tokens t d rest e version =
     (s.it, s.found, s.spells, (λ is. version (ap (λ (x : Tree). x.version) s.value ∙ is)), refl)
 
 pub too_deep : (text : List ℕ) (tokens : List Token) (t : Tree) (left : ℕ) (rest : List Symbol) → tree_of most_depth (symbols text tokens) ≡ Some (read t (Some left) rest)
-    → t.version ≡ two → IsParseFault text tokens (Depth (place_of text tokens left))
+    → t.version ≡ two → IsParseFault text tokens (Depth (token_place text tokens left))
 too_deep text tokens t left rest e version =
     let s = tree-sound most_depth (lit≤ tt) (symbols text tokens) (read t (Some left) rest) e in
     (s.it, s.found, left, s.spells, sym (ap (λ (x : Tree). x.version) s.value) ∙ version, sym s.deep, refl)
@@ -162,7 +162,7 @@ too_deep text tokens t left rest e version =
 pub ruleset verdicts = (accepted, other_version, too_deep)
 
 -- ---- exactness
-pub spelt_once : (text : List ℕ) (tokens : List Token) (a b : Tree) (f g : List Seen) → Spells text tokens a f → Spells text tokens b g
+pub spelt_once : (text : List ℕ) (tokens : List Token) (a b : Tree) (f g : List SeenExpression) → Spells text tokens a f → Spells text tokens b g
     → (a ≡ b) × (first_deep_of f ≡ first_deep_of g)
 spelt_once text tokens a b f g s t = only_one (symbols text tokens) a b f g s t
 
@@ -199,7 +199,7 @@ refused_once text tokens (Depth a) (Depth b) f g some other =
     let same = only_one (symbols text tokens) f.0 g.0 f.1 g.1 f.3 g.3 in
     let one : Some f.2 ≡ Some g.2 = sym f.5 ∙ same.1 ∙ g.5 in
     let left : f.2 ≡ g.2 = cc in
-    ap Depth (f.6 ∙ ap (place_of text tokens) left ∙ sym g.6)
+    ap Depth (f.6 ∙ ap (token_place text tokens) left ∙ sym g.6)
 refused_once text tokens (Depth a) NoMemory f g some other = absurd (other refl)
 refused_once text tokens NoMemory b f g some other = absurd (some refl)
 
@@ -218,16 +218,16 @@ pub accepted_or_refused : (text : List ℕ) (tokens : List Token)
     → ((t : Tree) × IsProgram text tokens t) ⊎ ((fault : ParseFault) × (fault ≢ NoMemory) × IsParseFault text tokens fault)
 accepted_or_refused text tokens = by_reading (tree_of most_depth (symbols text tokens)) refl
   where
-    misfit : tree_of most_depth (symbols text tokens) ≡ None → (o : Outcome) → walk tree_shape (symbols text tokens) ≡ o
+    misfit : tree_of most_depth (symbols text tokens) ≡ None → (o : WayOutcome) → walk tree_shape (symbols text tokens) ≡ o
         → ((t : Tree) × IsProgram text tokens t) ⊎ ((fault : ParseFault) × (fault ≢ NoMemory) × IsParseFault text tokens fault)
     misfit none (past rest) is =
         let no : Some rest ≡ None = ap went (sym is) ∙ tree-agrees most_depth sums-agree (symbols text tokens) ∙ ap (λ (r : Option (Read Tree)). rests r) none in cc
-    misfit none (stuck left) is = inr (Syntax (place_of text tokens left), (λ e. cc), (unspelt text tokens left is, place-there text tokens left is))
+    misfit none (stuck left) is = inr (Syntax (token_place text tokens left), (λ e. cc), (unspelt text tokens left is, place-there text tokens left is))
 
     by_deep : (t : Tree) (rest : List Symbol) (d : Option ℕ) → tree_of most_depth (symbols text tokens) ≡ Some (read t d rest) → t.version ≡ two
         → ((t : Tree) × IsProgram text tokens t) ⊎ ((fault : ParseFault) × (fault ≢ NoMemory) × IsParseFault text tokens fault)
     by_deep t rest None is v = inl (t, accepted text tokens t rest is v)
-    by_deep t rest (Some left) is v = inr (Depth (place_of text tokens left), (λ e. cc), too_deep text tokens t left rest is v)
+    by_deep t rest (Some left) is v = inr (Depth (token_place text tokens left), (λ e. cc), too_deep text tokens t left rest is v)
 
     by_reading : (o : Option (Read Tree)) → tree_of most_depth (symbols text tokens) ≡ o
         → ((t : Tree) × IsProgram text tokens t) ⊎ ((fault : ParseFault) × (fault ≢ NoMemory) × IsParseFault text tokens fault)

@@ -4,9 +4,9 @@
 use Rattle.std.proofs.Common.{◌≡◌, ℕ, zero, suc, List, [], ◌∷◌, Some, sym, ap, drop}
 use Rattle.std.specs.Prelude.{slice_get}
 use Rattle.qasm_lexer.specs.declared.Token.{Token}
-use Rattle.qasm_parser.specs.Symbols.{first_place}
+use Rattle.qasm_parser.specs.Symbols.{first_token_place}
 
-pub first_place-get : (size : ℕ) (tokens : List Token) (i : ℕ) (token : Token) → Some token ≡ slice_get tokens i → first_place size (drop i tokens) ≡ token.from
+pub first_place-get : (size : ℕ) (tokens : List Token) (i : ℕ) (token : Token) → Some token ≡ slice_get tokens i → first_token_place size (drop i tokens) ≡ token.from
 first_place-get size [] zero token e = cc
 first_place-get size [] (suc i) token e = cc
 first_place-get size (t ∷ tokens) zero token e = let same : token ≡ t = cc in sym (ap (λ (x : Token). x.from) same)

@@ -9,12 +9,12 @@ use Rattle.qasm_parser.specs.declared.symbols.Mark.{Mark}
 use Rattle.qasm_parser.specs.declared.symbols.Mark.TheVariants.{Semicolon, Comma, Open, Close, OpenBracket, CloseBracket, OpenBrace, CloseBrace, Arrow, Equals}
 use Rattle.qasm_parser.specs.Symbols.{Symbol, word, function, name, whole, real, quoted, mark, sign, other}
 use Rattle.qasm_parser.specs.Tree.{Expression, Application, Action, Statement, barrier, conditional, definition, gate}
-use Rattle.qasm_parser.specs.Machine.{sum_of}
-use Rattle.qasm_parser.specs.Reading.{Read, action_of, all, angle_of, angles_of, angles_of_u, application_of, applied, arg_of, args_of, argument, barrier_of, body_of, bracketed_of, conditional_of, deep_from, gate_of, head_of, header_of, include_of, index_of, is_mark, item_of, kept, list_of, listed_of, measure_of, more_items, more_of, more_statements, name_of, names_of, onto, opaque_of, optional_of, params_of, quoted_of, read, register_of, repeat, reset_of, skip, statement_of, tree_of, version_of, whole_number, whole_of, with_act, with_apply, with_gate}
-use Rattle.qasm_parser.specs.Ways.{Kind, Outcome, past, stuck, Shape, nothing, one, sequel, choice, many, until, sum, this_mark, a_name, a_whole, a_text, the_end, comes, is_some, many_turns, onward, until_turns, walk}
+use Rattle.qasm_parser.specs.Machine.{read_sum}
+use Rattle.qasm_parser.specs.Reading.{Read, action_of, all, angle_of, angles_of, angles_of_u, application_of, applied_head, arg_of, args_of, argument, barrier_of, body_of, bracketed_of, conditional_of, deep_from, gate_of, head_of, header_of, include_of, optional_index_of, is_mark, item_of, kept_or_pi, list_of, listed_of, measure_of, more_items, more_of, more_statements, name_of, names_of, onto, opaque_of, optional_of, params_of, quoted_of, read, register_of, repeat, reset_of, skip, statement_of, tree_of, version_of, whole_number, whole_of, with_act, with_apply, with_gate_name}
+use Rattle.qasm_parser.specs.Ways.{Kind, WayOutcome, past, stuck, Shape, nothing, one, sequel, choice, many, until, sum, this_mark, a_name, a_whole, a_text, the_end, comes, is_some, many_rounds, onward, until_rounds, walk}
 use Rattle.qasm_parser.specs.Shapes.{action_shape, angles_shape, application_shape, arg_shape, args_shape, body_shape, bracketed_shape, conditional_shape, gate_shape, head_shape, header_shape, include_shape, index_shape, item_shape, list_shape, listed_shape, measure_shape, names_shape, opaque_shape, optional_shape, params_shape, register_shape, reset_shape, statement_shape, tree_shape, u_shape, version_shape}
 
-abbrev pub went : Outcome → Option (List Symbol)
+abbrev pub went : WayOutcome → Option (List Symbol)
 went (past rest) = Some rest
 went (stuck left) = None
 
@@ -25,7 +25,7 @@ abbrev pub Agrees : {A : Type 0} → (List Symbol → Option (Read A)) → Shape
 Agrees f R = (ts : List Symbol) → went (walk R ts) ≡ rests (f ts)
 
 -- ---- one behind the other
-went-onward : (K : List Symbol → Outcome) (o : Outcome) → went (onward K o) ≡ option_and_then (λ us. went (K us)) (went o)
+went-onward : (K : List Symbol → WayOutcome) (o : WayOutcome) → went (onward K o) ≡ option_and_then (λ us. went (K us)) (went o)
 went-onward K (past us) = refl
 went-onward K (stuck left) = refl
 
@@ -134,7 +134,7 @@ bracketed-agrees : Agrees bracketed_of bracketed_shape
 unfolding bracketed_of bracketed_shape
 bracketed-agrees ts = agree-sequel whole_of _ (one a_whole) (one (this_mark CloseBracket)) whole-agrees (λ n. agree-last CloseBracket n.value None n.rest) ts
 
-index-agrees : (plain : Bool) → Agrees (index_of plain) (index_shape plain)
+index-agrees : (plain : Bool) → Agrees (optional_index_of plain) (index_shape plain)
 index-agrees true ts = refl
 index-agrees false ts = choice-skip OpenBracket bracketed_shape nothing ts ∙ by_skip (skip OpenBracket ts)
   where
@@ -146,7 +146,7 @@ index-agrees false ts = choice-skip OpenBracket bracketed_shape nothing ts ∙ b
 arg-agrees : (plain : Bool) → Agrees (arg_of plain) (arg_shape plain)
 unfolding arg_of arg_shape
 arg-agrees plain ts = agree-sequel name_of _ (one a_name) (index_shape plain) name-agrees
-    (λ n. index-agrees plain n.rest ∙ agree-some (λ (i : Read (Option ℕ)). read (argument n.value i.value) None i.rest) (λ i. refl) (index_of plain n.rest)) ts
+    (λ n. index-agrees plain n.rest ∙ agree-some (λ (i : Read (Option ℕ)). read (argument n.value i.value) None i.rest) (λ i. refl) (optional_index_of plain n.rest)) ts
 
 -- ---- again and again
 rests-onto : {A : Type 0} (xs : List A) (d : Option ℕ) (o : Option (Read (List A))) → rests o ≡ rests (onto xs d o)
@@ -161,7 +161,7 @@ module _ {A : Type 0} (k : Kind) (item : List Symbol → Option (Read A)) (R : S
   ]
 
   -- behind one more
-  one-more : (n : ℕ) (K : List Symbol → Outcome) (ts us : List Symbol) → ((vs : List Symbol) → went (K vs) ≡ rests (repeat step n vs))
+  one-more : (n : ℕ) (K : List Symbol → WayOutcome) (ts us : List Symbol) → ((vs : List Symbol) → went (K vs) ≡ rests (repeat step n vs))
       → went (onward K (walk R us)) ≡ rests (turn n (option_map Some (item us)) ts)
   one-more n K ts us again = went-onward K (walk R us) ∙ ap (option_and_then (λ vs. went (K vs))) (agrees us) ∙ by_item (item us)
     where
@@ -170,24 +170,24 @@ module _ {A : Type 0} (k : Kind) (item : List Symbol → Option (Read A)) (R : S
       by_item (Some x) = again x.rest ∙ rests-onto (x.value ∷ []) x.deep (repeat step n x.rest)
 
   many-agrees : ((ts : List Symbol) → step ts ≡ (if comes k ts then option_map Some (item (drop 1 ts)) else Some None))
-      → (n : ℕ) (ts : List Symbol) → went (many_turns k (walk R) n ts) ≡ rests (repeat step n ts)
+      → (n : ℕ) (ts : List Symbol) → went (many_rounds k (walk R) n ts) ≡ rests (repeat step n ts)
   many-agrees steps zero ts = refl
   many-agrees steps (suc n) ts = by_test (λ vs. many-agrees steps n vs) (comes k ts) ∙ ap (λ more. rests (turn n more ts)) (sym (steps ts))
     where
-      by_test : ((vs : List Symbol) → went (many_turns k (walk R) n vs) ≡ rests (repeat step n vs)) → (b : Bool)
-          → went (if b then onward (many_turns k (walk R) n) (walk R (drop 1 ts)) else past ts) ≡ rests (turn n (if b then option_map Some (item (drop 1 ts)) else Some None) ts)
-      by_test again true = one-more n (many_turns k (walk R) n) ts (drop 1 ts) again
+      by_test : ((vs : List Symbol) → went (many_rounds k (walk R) n vs) ≡ rests (repeat step n vs)) → (b : Bool)
+          → went (if b then onward (many_rounds k (walk R) n) (walk R (drop 1 ts)) else past ts) ≡ rests (turn n (if b then option_map Some (item (drop 1 ts)) else Some None) ts)
+      by_test again true = one-more n (many_rounds k (walk R) n) ts (drop 1 ts) again
       by_test again false = refl
 
   until-agrees : ((ts : List Symbol) → step ts ≡ (if comes k ts then Some None else option_map Some (item ts)))
-      → (n : ℕ) (ts : List Symbol) → went (until_turns k (walk R) n ts) ≡ rests (repeat step n ts)
+      → (n : ℕ) (ts : List Symbol) → went (until_rounds k (walk R) n ts) ≡ rests (repeat step n ts)
   until-agrees steps zero ts = refl
   until-agrees steps (suc n) ts = by_test (λ vs. until-agrees steps n vs) (comes k ts) ∙ ap (λ more. rests (turn n more ts)) (sym (steps ts))
     where
-      by_test : ((vs : List Symbol) → went (until_turns k (walk R) n vs) ≡ rests (repeat step n vs)) → (b : Bool)
-          → went (if b then past ts else onward (until_turns k (walk R) n) (walk R ts)) ≡ rests (turn n (if b then Some None else option_map Some (item ts)) ts)
+      by_test : ((vs : List Symbol) → went (until_rounds k (walk R) n vs) ≡ rests (repeat step n vs)) → (b : Bool)
+          → went (if b then past ts else onward (until_rounds k (walk R) n) (walk R ts)) ≡ rests (turn n (if b then Some None else option_map Some (item ts)) ts)
       by_test again true = refl
-      by_test again false = one-more n (until_turns k (walk R) n) ts ts again
+      by_test again false = one-more n (until_rounds k (walk R) n) ts ts again
 
 more_of-steps : {A : Type 0} (item : List Symbol → Option (Read A)) (ts : List Symbol) → more_of item ts ≡ (if comes (this_mark Comma) ts then option_map Some (item (drop 1 ts)) else Some None)
 more_of-steps item [] = refl
@@ -299,15 +299,15 @@ header-agrees (other ∷ ts) = refl
 
 -- ---- what has expressions
 abbrev pub SumsAgree : ℕ → Type 0
-SumsAgree limit = (ts : List Symbol) → went (walk sum ts) ≡ option_map (λ r. r.1) (sum_of limit ts)
+SumsAgree limit = (ts : List Symbol) → went (walk sum ts) ≡ option_map (λ r. r.1) (read_sum limit ts)
 
 module _ (limit : ℕ) (sums : SumsAgree limit) where
   angle-agrees : Agrees (angle_of limit) sum
   unfolding angle_of
-  angle-agrees ts = sums ts ∙ by_sum (sum_of limit ts)
+  angle-agrees ts = sums ts ∙ by_sum (read_sum limit ts)
     where
       by_sum : (o : Option (Option Expression × List Symbol)) → option_map (λ r. r.1) o
-          ≡ rests (option_map (λ r. read (kept r.0) (deep_from (length ts) r.0) r.1) o)
+          ≡ rests (option_map (λ r. read (kept_or_pi r.0) (deep_from (length ts) r.0) r.1) o)
       by_sum None = refl
       by_sum (Some r) = refl
 
@@ -334,7 +334,7 @@ module _ (limit : ℕ) (sums : SumsAgree limit) where
   unfolding angles_of_u u_shape
   u-agrees ts = agree-skip Open (angles_of limit) angles_shape angles-agrees ts
 
-  gate-rests : (bytes : List ℕ) (o : Option (Read (List Expression))) → rests o ≡ rests (with_gate bytes o)
+  gate-rests : (bytes : List ℕ) (o : Option (Read (List Expression))) → rests o ≡ rests (with_gate_name bytes o)
   gate-rests bytes None = refl
   gate-rests bytes (Some es) = refl
 
@@ -366,7 +366,7 @@ module _ (limit : ℕ) (sums : SumsAgree limit) where
   application-agrees : (plain : Bool) → Agrees (application_of limit plain) (application_shape plain)
   unfolding application_of application_shape
   application-agrees plain ts = agree-sequel (head_of limit) _ head_shape (args_shape plain) head-agrees
-      (λ h. args-agrees plain h.rest ∙ agree-some (λ (args : Read (List Arg)). read (applied h.value args.value) h.deep args.rest) (λ args. refl) (args_of plain h.rest)) ts
+      (λ h. args-agrees plain h.rest ∙ agree-some (λ (args : Read (List Arg)). read (applied_head h.value args.value) h.deep args.rest) (λ args. refl) (args_of plain h.rest)) ts
 
   apply-rests : (o : Option (Read Application)) → rests o ≡ rests (with_apply o)
   apply-rests None = refl

@@ -9,7 +9,7 @@ use Rattle.std.proofs.lemmas.Bool.Decides.{nat_tests}
 use Rattle.qasm_parser.specs.declared.symbols.Mark.{Mark}
 use Rattle.qasm_parser.specs.declared.symbols.Mark.TheVariants.{Semicolon, Comma, Open, Close, OpenBracket, CloseBracket, OpenBrace, CloseBrace, Arrow, Equals}
 use Rattle.qasm_parser.specs.Symbols.{Symbol, word, function, name, whole, real, quoted, mark, sign, other}
-use Rattle.qasm_parser.specs.Spelling.{BehindComma, Grammar, Seen, SpellsEach, SpellsList, first_deep}
+use Rattle.qasm_parser.specs.Spelling.{BehindComma, Grammar, SeenExpression, SpellsEach, SpellsList, first_deep}
 use Rattle.qasm_parser.specs.Reading.{Read, all, first_of, is_mark, list_of, mark_code, more_of, onto, read, repeat, skip}
 
 -- ---- places
@@ -17,7 +17,7 @@ pub first_of-assoc : (a b c : Option ℕ) → first_of (first_of a b) c ≡ firs
 first_of-assoc (Some a) b c = refl
 first_of-assoc None b c = refl
 
-pub first_deep-append : (limit : ℕ) (xs ys : List Seen) → first_deep limit (xs ++ ys) ≡ first_of (first_deep limit xs) (first_deep limit ys)
+pub first_deep-append : (limit : ℕ) (xs ys : List SeenExpression) → first_deep limit (xs ++ ys) ≡ first_of (first_deep limit xs) (first_deep limit ys)
 first_deep-append limit [] ys = refl
 first_deep-append limit (x ∷ xs) ys = by_test (first_deep-append limit xs ys) (nat_le x.depth limit)
   where
@@ -70,7 +70,7 @@ module _ {A : Type 0} (limit : ℕ) (cap : A → A) (R : Grammar A) where
   -- what a reader gives is spelt
   pub record Spelt (ts : List Symbol) (r : Read A) : Type 0 where
     pub it : A
-    pub found : List Seen
+    pub found : List SeenExpression
     pub spells : R it ts r.rest found
     pub value : r.value ≡ cap it
     pub deep : r.deep ≡ first_deep limit found
@@ -80,11 +80,11 @@ module _ {A : Type 0} (limit : ℕ) (cap : A → A) (R : Grammar A) where
 
   -- what is spelt is read, where the rest doesn't continue it
   abbrev pub Complete : (List Symbol → Option (Read A)) → (List Symbol → Type 0) → Type 0
-  Complete f Ends = (x : A) (ts rest : List Symbol) (found : List Seen) → R x ts rest found → Ends rest → f ts ≡ Some (read (cap x) (first_deep limit found) rest)
+  Complete f Ends = (x : A) (ts rest : List Symbol) (found : List SeenExpression) → R x ts rest found → Ends rest → f ts ≡ Some (read (cap x) (first_deep limit found) rest)
 
   -- the symbols of it are some
   abbrev pub Takes : Type 0
-  Takes = (x : A) (ts rest : List Symbol) (found : List Seen) → R x ts rest found → length rest < length ts
+  Takes = (x : A) (ts rest : List Symbol) (found : List SeenExpression) → R x ts rest found → length rest < length ts
 
 pub shrinks_by : {A : Type 0} (limit : ℕ) (cap : A → A) (R : Grammar A) (f : List Symbol → Option (Read A)) → Sound limit cap R f → Takes limit cap R
     → (ts : List Symbol) (r : Read A) → f ts ≡ Some r → length r.rest < length ts
@@ -127,13 +127,13 @@ module _ {A : Type 0} (limit : ℕ) (cap : A → A) (R : Grammar A) (step : List
       by_step again (Some None) is = each-nothing ts r (sym (rw (is, repeat) refl) ∙ e)
       by_step again (Some (Some x)) is = each-one ts x (repeat step n x.rest) r (sound ts x is) (again x.rest) (sym (rw (is, repeat) refl) ∙ e)
 
-  module _ (Ends : List Symbol → Type 0) (shrinks : Shrinks step) (begins : (x : A) (ts rest : List Symbol) (found : List Seen) → R x ts rest found → Ends ts)
-      (complete : (x : A) (ts rest : List Symbol) (found : List Seen) → R x ts rest found → Ends rest → step ts ≡ Some (Some (read (cap x) (first_deep limit found) rest))) where
-    each-begins : (xs : List A) (ts rest : List Symbol) (found : List Seen) → SpellsEach R xs ts rest found → Ends rest → Ends ts
+  module _ (Ends : List Symbol → Type 0) (shrinks : Shrinks step) (begins : (x : A) (ts rest : List Symbol) (found : List SeenExpression) → R x ts rest found → Ends ts)
+      (complete : (x : A) (ts rest : List Symbol) (found : List SeenExpression) → R x ts rest found → Ends rest → step ts ≡ Some (Some (read (cap x) (first_deep limit found) rest))) where
+    each-begins : (xs : List A) (ts rest : List Symbol) (found : List SeenExpression) → SpellsEach R xs ts rest found → Ends rest → Ends ts
     each-begins [] ts rest found s ends = subst Ends (sym s.0) ends
     each-begins (x ∷ xs) ts rest found s ends = begins x ts s.0 s.1 s.3
 
-    pub each-complete : (xs : List A) (ts rest : List Symbol) (found : List Seen) → SpellsEach R xs ts rest found → Ends rest → step rest ≡ Some None
+    pub each-complete : (xs : List A) (ts rest : List Symbol) (found : List SeenExpression) → SpellsEach R xs ts rest found → Ends rest → step rest ≡ Some None
         → all step ts ≡ Some (read (map cap xs) (first_deep limit found) rest)
     each-complete [] ts rest found s ends last = rw (s.0, s.1) (all-end step rest last)
     each-complete (x ∷ xs) ts rest found s ends last =
@@ -230,11 +230,11 @@ module _ {A : Type 0} (limit : ℕ) (cap : A → A) (R : Grammar A) (item : List
         let longer : length ts ≡ suc (length p.0) = ap length p.1 in
         omega arith
 
-    more-complete : (x : A) (ts rest : List Symbol) (found : List Seen) → BehindComma R x ts rest found → Ends rest
+    more-complete : (x : A) (ts rest : List Symbol) (found : List SeenExpression) → BehindComma R x ts rest found → Ends rest
         → more_of item ts ≡ Some (Some (read (cap x) (first_deep limit found) rest))
     more-complete x ts rest found s ends = ap (more_of item) s.1 ∙ ap (option_map Some) (complete x s.0 rest found s.2 ends)
 
-    pub list-complete : (xs : List A) (ts rest : List Symbol) (found : List Seen) → SpellsList R xs ts rest found → Ends rest → more_of item rest ≡ Some None
+    pub list-complete : (xs : List A) (ts rest : List Symbol) (found : List SeenExpression) → SpellsList R xs ts rest found → Ends rest → more_of item rest ≡ Some None
         → list_of item ts ≡ Some (read (map cap xs) (first_deep limit found) rest)
     list-complete [] ts rest found s ends last = absurd s
     list-complete (x ∷ xs) ts rest found s ends last =
@@ -243,10 +243,10 @@ module _ {A : Type 0} (limit : ℕ) (cap : A → A) (R : Grammar A) (item : List
         (each-complete limit cap (BehindComma R) (more_of item) Ends more-shrinks begins more-complete xs s.0 rest s.2 s.4 ends last)
         ∙ ap (λ d. Some (read (cap x ∷ map cap xs) d rest)) (sym (first_deep-append limit s.1 s.2) ∙ ap (first_deep limit) (sym s.5))
       where
-        begins : (x : A) (ts rest : List Symbol) (found : List Seen) → BehindComma R x ts rest found → Ends ts
+        begins : (x : A) (ts rest : List Symbol) (found : List SeenExpression) → BehindComma R x ts rest found → Ends ts
         begins x ts rest found s = subst Ends (sym s.1) (comma s.0)
 
-        middle : (xs : List A) (mid : List Symbol) (later : List Seen) → SpellsEach (BehindComma R) xs mid rest later → Ends mid
+        middle : (xs : List A) (mid : List Symbol) (later : List SeenExpression) → SpellsEach (BehindComma R) xs mid rest later → Ends mid
         middle [] mid later s = subst Ends (sym s.0) ends
         middle (y ∷ ys) mid later s = begins y mid s.0 s.1 s.3
 

@@ -13,13 +13,13 @@ use Rattle.qasm_parser.specs.declared.symbols.Mark.{Mark}
 use Rattle.qasm_parser.specs.declared.symbols.Mark.TheVariants.{Semicolon, Comma, Open, Close, OpenBracket, CloseBracket, OpenBrace, CloseBrace, Equals}
 use Rattle.qasm_parser.specs.Symbols.{Symbol, word, function, name, whole, real, quoted, mark, sign, other}
 use Rattle.qasm_parser.specs.Tree.{Application, Action, apply, measure, reset, barrier, Definition, definition, Statement, include, register, gate, opaque, conditional, act, Tree}
-use Rattle.qasm_parser.specs.Spelling.{Form, by_u, by_cx, alone, empty, listed, IsConditional, Params, bare, vacant, given, Seen, SpellsAction, SpellsEach, SpellsForm, SpellsItem, SpellsList, SpellsName, SpellsNames, SpellsParams, SpellsStatement, SpellsTree, whole_symbol, first_deep}
-use Rattle.qasm_parser.specs.Reading.{Read, action_of, all, barrier_of, begins_with, body_of, bracketed_of, conditional_of, gate_of, header_of, include_of, is_mark, item_of, list_of, listed_of, more_items, more_statements, name_of, names_of, opaque_of, params_of, quoted_of, read, register_of, skip, statement_of, tree_of, version_of, whole_of, with_act, word_statement}
+use Rattle.qasm_parser.specs.Spelling.{Form, by_u, by_cx, alone, empty, listed, IsConditional, Params, bare, vacant, given, SeenExpression, SpellsAction, SpellsEach, SpellsForm, SpellsItem, SpellsList, SpellsName, SpellsNames, SpellsParams, SpellsStatement, SpellsTree, whole_symbol, first_deep}
+use Rattle.qasm_parser.specs.Reading.{Read, action_of, all, barrier_of, begins_with_mark, body_of, bracketed_of, conditional_of, gate_of, header_of, include_of, is_mark, item_of, list_of, listed_of, more_items, more_statements, name_of, names_of, opaque_of, params_of, quoted_of, read, register_of, skip, statement_of, tree_of, version_of, whole_of, with_act, word_statement}
 use Rattle.qasm_parser.proofs.RepeatLaws.{Complete, Shrinks, Sound, Spelt, StepSound, each-complete, each-sound, repeat-ends, skip-sound}
 use Rattle.qasm_parser.proofs.FormLaws.{Any, action-complete, action-long, action-sound, barrier-complete, barrier-sound, both_of, bracketed-sound, each-long, item-complete, item-long, item-sound, mapped, name-sound, name_of-name, names-complete, names-long, names-sound, shown_action, whole-sound}
 
 -- ---- the names of a definition
-names-front : (ns : List (List ℕ)) (ts rest : List Symbol) (found : List Seen) → SpellsList SpellsName ns ts rest found → (skip Close ts ≡ None) × (skip Open ts ≡ None)
+names-front : (ns : List (List ℕ)) (ts rest : List Symbol) (found : List SeenExpression) → SpellsList SpellsName ns ts rest found → (skip Close ts ≡ None) × (skip Open ts ≡ None)
 names-front [] ts rest found s = absurd s
 names-front (n ∷ ns) ts rest found s = (ap (skip Close) s.3.0, ap (skip Open) s.3.0)
 
@@ -114,9 +114,9 @@ module _ (limit : ℕ) (positive : 1 ≤ limit) where
   step-some (Some x) r e = let same : ◌≡◌ {A = Option (Read _)} (Some x) (Some r) = cc in same
 
   pub items-step : StepSound limit (shown_action limit positive) SpellsItem (more_items limit)
-  items-step ts r e = by_test (begins_with CloseBrace ts) refl e
+  items-step ts r e = by_test (begins_with_mark CloseBrace ts) refl e
     where
-      by_test : (b : Bool) → begins_with CloseBrace ts ≡ b → (if b then Some None else option_map Some (item_of limit ts)) ≡ Some (Some r)
+      by_test : (b : Bool) → begins_with_mark CloseBrace ts ≡ b → (if b then Some None else option_map Some (item_of limit ts)) ≡ Some (Some r)
           → Spelt limit (shown_action limit positive) SpellsItem ts r
       by_test true is e' = cc
       by_test false is e' = item-sound limit positive ts r (step-some (item_of limit ts) r e')
@@ -133,20 +133,20 @@ module _ (limit : ℕ) (positive : 1 ≤ limit) where
   shown_statement (conditional bytes value inner) = conditional bytes value (shown_action limit positive inner)
   shown_statement (act x) = act (shown_action limit positive x)
 
-  form-front : (form : Form) (a : Application) (ts rest : List Symbol) (found : List Seen) → SpellsForm form a ts rest found → begins_with CloseBrace ts ≡ false
-  form-front by_u a ts rest found s = ap (begins_with CloseBrace) s.2
-  form-front by_cx a ts rest found s = ap (begins_with CloseBrace) s.2
-  form-front alone a ts rest found s = ap (begins_with CloseBrace) s.1
-  form-front empty a ts rest found s = ap (begins_with CloseBrace) s.1
-  form-front listed a ts rest found s = ap (begins_with CloseBrace) s.1
+  form-front : (form : Form) (a : Application) (ts rest : List Symbol) (found : List SeenExpression) → SpellsForm form a ts rest found → begins_with_mark CloseBrace ts ≡ false
+  form-front by_u a ts rest found s = ap (begins_with_mark CloseBrace) s.2
+  form-front by_cx a ts rest found s = ap (begins_with_mark CloseBrace) s.2
+  form-front alone a ts rest found s = ap (begins_with_mark CloseBrace) s.1
+  form-front empty a ts rest found s = ap (begins_with_mark CloseBrace) s.1
+  form-front listed a ts rest found s = ap (begins_with_mark CloseBrace) s.1
 
-  item-front : (x : Action) (ts rest : List Symbol) (found : List Seen) → SpellsItem x ts rest found → begins_with CloseBrace ts ≡ false
+  item-front : (x : Action) (ts rest : List Symbol) (found : List SeenExpression) → SpellsItem x ts rest found → begins_with_mark CloseBrace ts ≡ false
   item-front (apply a) ts rest found s = form-front s.0 a ts s.1 found s.2
-  item-front (barrier args) ts rest found s = ap (begins_with CloseBrace) s.1
+  item-front (barrier args) ts rest found s = ap (begins_with_mark CloseBrace) s.1
   item-front (measure q b) ts rest found s = absurd s
   item-front (reset a) ts rest found s = absurd s
 
-  items-complete : (x : Action) (ts rest : List Symbol) (found : List Seen) → SpellsItem x ts rest found → Any rest
+  items-complete : (x : Action) (ts rest : List Symbol) (found : List SeenExpression) → SpellsItem x ts rest found → Any rest
       → more_items limit ts ≡ Some (Some (read (shown_action limit positive x) (first_deep limit found) rest))
   items-complete x ts rest found s ends =
       rw (item-front x ts rest found s, more_items) (ap (option_map Some) (item-complete limit positive x ts rest found s tt))
@@ -169,7 +169,7 @@ module _ (limit : ℕ) (positive : 1 ≤ limit) where
         deep = s.deep;
       })))
 
-  body-complete : (xs : List Action) (ts rest : List Symbol) (found : List Seen) → SpellsEach SpellsItem xs ts (mark CloseBrace ∷ rest) found
+  body-complete : (xs : List Action) (ts rest : List Symbol) (found : List SeenExpression) → SpellsEach SpellsItem xs ts (mark CloseBrace ∷ rest) found
       → body_of limit ts ≡ Some (read (map (shown_action limit positive) xs) (first_deep limit found) rest)
   unfolding body_of
   body-complete xs ts rest found s =
@@ -196,7 +196,7 @@ module _ (limit : ℕ) (positive : 1 ≤ limit) where
         deep = s.deep;
       }))))
 
-  gate-complete : (d : Definition) (ts us rest : List Symbol) (found : List Seen) → SpellsNames d ts (mark OpenBrace ∷ us)
+  gate-complete : (d : Definition) (ts us rest : List Symbol) (found : List SeenExpression) → SpellsNames d ts (mark OpenBrace ∷ us)
       → SpellsEach SpellsItem d.body us (mark CloseBrace ∷ rest) found
       → gate_of limit ts ≡ Some (read (shown_statement (gate d)) (first_deep limit found) rest)
   unfolding gate_of
@@ -325,7 +325,7 @@ module _ (limit : ℕ) (positive : 1 ≤ limit) where
         deep = s.deep;
       })))))))
 
-  conditional-complete : (bytes : List ℕ) (value : ℕ) (inner : Action) (mid rest : List Symbol) (found : List Seen) → IsConditional inner → SpellsAction inner mid rest found
+  conditional-complete : (bytes : List ℕ) (value : ℕ) (inner : Action) (mid rest : List Symbol) (found : List SeenExpression) → IsConditional inner → SpellsAction inner mid rest found
       → conditional_of limit (mark Open ∷ name bytes ∷ mark Equals ∷ whole_symbol value ∷ mark Close ∷ mid)
       ≡ Some (read (shown_statement (conditional bytes value inner)) (first_deep limit found) rest)
   unfolding conditional_of name_of whole_of
@@ -367,7 +367,7 @@ module _ (limit : ℕ) (positive : 1 ≤ limit) where
   statement-sound (t ∷ ts) r e = by_action (t ∷ ts) r e
 
   -- an action that is no barrier is read as one
-  act_by_form : (form : Form) (a : Application) (ts rest : List Symbol) (found : List Seen) → SpellsForm form a ts rest found → statement_of limit ts ≡ with_act (action_of limit ts)
+  act_by_form : (form : Form) (a : Application) (ts rest : List Symbol) (found : List SeenExpression) → SpellsForm form a ts rest found → statement_of limit ts ≡ with_act (action_of limit ts)
   unfolding statement_of
   act_by_form by_u a ts rest found s = subst (λ (x : List Symbol). statement_of limit x ≡ with_act (action_of limit x)) (sym s.2) refl
   act_by_form by_cx a ts rest found s = subst (λ (x : List Symbol). statement_of limit x ≡ with_act (action_of limit x)) (sym s.2) refl
@@ -375,7 +375,7 @@ module _ (limit : ℕ) (positive : 1 ≤ limit) where
   act_by_form empty a ts rest found s = subst (λ (x : List Symbol). statement_of limit x ≡ with_act (action_of limit x)) (sym s.1) refl
   act_by_form listed a ts rest found s = subst (λ (x : List Symbol). statement_of limit x ≡ with_act (action_of limit x)) (sym s.1) refl
 
-  act-complete : (x : Action) (ts rest : List Symbol) (found : List Seen) → SpellsAction x ts rest found
+  act-complete : (x : Action) (ts rest : List Symbol) (found : List SeenExpression) → SpellsAction x ts rest found
       → statement_of limit ts ≡ Some (read (act (shown_action limit positive x)) (first_deep limit found) rest)
   unfolding statement_of
   act-complete (apply a) ts rest found s = act_by_form s.0 a ts s.1 found s.2 ∙ ap with_act (action-complete limit positive (apply a) ts rest found tt s)
@@ -403,7 +403,7 @@ module _ (limit : ℕ) (positive : 1 ≤ limit) where
   statement-complete (act x) ts rest found s ends = act-complete x ts rest found s
 
   -- ---- programs
-  pub statement-long : (x : Statement) (ts rest : List Symbol) (found : List Seen) → SpellsStatement x ts rest found → length rest < length ts
+  pub statement-long : (x : Statement) (ts rest : List Symbol) (found : List SeenExpression) → SpellsStatement x ts rest found → length rest < length ts
   statement-long (include file) ts rest found s = let k : length ts ≡ suc (suc (suc (length rest))) = ap length s.0 in omega arith
   statement-long (register quantum bytes size) ts rest found s = let k : length ts ≡ suc (suc (suc (suc (suc (suc (length rest)))))) = ap length s.0 in omega arith
   statement-long (gate d) ts rest found s =
@@ -435,7 +435,7 @@ module _ (limit : ℕ) (positive : 1 ≤ limit) where
   more_statements-some [] h = absurd (omega arith)
   more_statements-some (t ∷ ts) h = refl
 
-  statements-complete : (x : Statement) (ts rest : List Symbol) (found : List Seen) → SpellsStatement x ts rest found → Any rest
+  statements-complete : (x : Statement) (ts rest : List Symbol) (found : List SeenExpression) → SpellsStatement x ts rest found → Any rest
       → more_statements limit ts ≡ Some (Some (read (shown_statement x) (first_deep limit found) rest))
   statements-complete x ts rest found s ends =
       let long = statement-long x ts rest found s in
@@ -494,7 +494,7 @@ module _ (limit : ℕ) (positive : 1 ≤ limit) where
 
   pub record TreeSpelt (ts : List Symbol) (r : Read Tree) : Type 0 where
     pub it : Tree
-    pub found : List Seen
+    pub found : List SeenExpression
     pub spells : SpellsTree it ts found
     pub value : r.value ≡ shown_tree it
     pub deep : r.deep ≡ first_deep limit found
@@ -521,7 +521,7 @@ module _ (limit : ℕ) (positive : 1 ≤ limit) where
   unfolding header_of version_of
   header-complete v rest = refl
 
-  pub tree-complete : (t : Tree) (ts : List Symbol) (found : List Seen) → SpellsTree t ts found → tree_of limit ts ≡ Some (read (shown_tree t) (first_deep limit found) [])
+  pub tree-complete : (t : Tree) (ts : List Symbol) (found : List SeenExpression) → SpellsTree t ts found → tree_of limit ts ≡ Some (read (shown_tree t) (first_deep limit found) [])
   unfolding tree_of
   tree-complete t ts found s =
       ap (option_and_then (λ v. option_and_then (λ list. Some (read (record { version = v.value; list = list.value }) list.deep list.rest)) (all (more_statements limit) v.rest)))

@@ -6,7 +6,7 @@ use Rattle.qasm_parser.specs.declared.symbols.Mark.TheVariants.{CloseBrace}
 use Rattle.qasm_parser.specs.declared.tree.Stmt.{Stmt}
 use Rattle.qasm_parser.specs.Symbols.{Symbol}
 use Rattle.qasm_parser.specs.Tree.{Action, Statement, action, statement, most_depth}
-use Rattle.qasm_parser.specs.Reading.{Read, all, begins_with, first_of, item_of, more_items, more_statements, onto, read, statement_of}
+use Rattle.qasm_parser.specs.Reading.{Read, all, begins_with_mark, first_of, item_of, more_items, more_statements, onto, read, statement_of}
 use Rattle.qasm_parser.proofs.RepeatLaws.{Shrinks, all-end, all-more, onto-nothing, onto-onto}
 use Rattle.qasm_parser.proofs.FormLaws.{item-long, item-sound}
 use Rattle.qasm_parser.proofs.StatementLaws.{items-shrink, statement-long, statement-sound, statements-shrink}
@@ -27,16 +27,16 @@ module _ {A X : Type 0} (view : X → A) (step : List Symbol → Option (Option 
   last-step front deep ts h = ap (onto front deep) (all-end step ts h) ∙ rw (append-nil, first_of-none) refl
 
 -- ---- items
-more-item : (ts : List Symbol) → begins_with CloseBrace ts ≡ false → more_items most_depth ts ≡ option_map Some (item_of most_depth ts)
+more-item : (ts : List Symbol) → begins_with_mark CloseBrace ts ≡ false → more_items most_depth ts ≡ option_map Some (item_of most_depth ts)
 more-item ts h = rw (h, more_items) refl
 
-pub items-step : (front : List Stmt) (deep : Option ℕ) (ts rest : List Symbol) (x : Stmt) (d : Option ℕ) → begins_with CloseBrace ts ≡ false
+pub items-step : (front : List Stmt) (deep : Option ℕ) (ts rest : List Symbol) (x : Stmt) (d : Option ℕ) → begins_with_mark CloseBrace ts ≡ false
     → item_of most_depth ts ≡ Some (read (action x) d rest)
     → onto (map action (front ++ x ∷ [])) (first_of deep d) (all (more_items most_depth) rest) ≡ onto (map action front) deep (all (more_items most_depth) ts)
 items-step front deep ts rest x d h k =
     one-step action (more_items most_depth) (items-shrink most_depth (lit≤ tt)) front deep ts rest x d (more-item ts h ∙ ap (option_map Some) k)
 
-pub items-last : (front : List Action) (deep : Option ℕ) (ts : List Symbol) → begins_with CloseBrace ts ≡ true
+pub items-last : (front : List Action) (deep : Option ℕ) (ts : List Symbol) → begins_with_mark CloseBrace ts ≡ true
     → onto front deep (all (more_items most_depth) ts) ≡ Some (read front deep ts)
 items-last front deep ts h = last-step {X = Stmt} action (more_items most_depth) front deep ts (rw (h, more_items) refl)
 

@@ -5,7 +5,7 @@
 --   stuck-there      where a form is stuck
 use Rattle.std.proofs.Common.{◌≡◌, ℕ, zero, suc, ◌<◌, ◌≤◌, Bool, true, false, not, nat_eq, List, [], ◌∷◌, ◌++◌, refl, sym, ap, ◌∙◌, subst, drop, length, arith, append_assoc, inl, inr}
 use Rattle.qasm_parser.specs.Symbols.{Symbol}
-use Rattle.qasm_parser.specs.Ways.{Kind, Outcome, past, stuck, Shape, nothing, one, sequel, choice, many, until, sum, comes, onward, walk}
+use Rattle.qasm_parser.specs.Ways.{Kind, WayOutcome, past, stuck, Shape, nothing, one, sequel, choice, many, until, sum, comes, onward, walk}
 use Rattle.qasm_parser.proofs.KindLaws.{both-left, both-right, comes-look, comes-same, comes-sample, equal-numbers, first-symbol, implied, implies, kind_number, look, look-append, look-below, opposite, sample, under-holds}
 use Rattle.qasm_parser.proofs.WayForms.{Follows, IsPhrase, IsStuck, SumLaws, Taken, apart, empty, fill, fine, starts, stops}
 use Rattle.qasm_parser.proofs.WayLaws.{choice-off, choice-on, fine-choice, fine-many, fine-until, many-off, many-on, many-stuck, not-both, one-comes, one-other, past-once, sequel-off, sequel-on, stuck-once, taken, taken-length, taken-some, true-false, until-off, until-on, until-stuck}
@@ -150,7 +150,7 @@ module _ (laws : SumLaws) where
             ∙ read;
       }
 
-      by_way : (o : Outcome) → walk A ts ≡ o → onward (walk B) o ≡ past rest → IsPhrase (sequel A B) ts rest
+      by_way : (o : WayOutcome) → walk A ts ≡ o → onward (walk B) o ≡ past rest → IsPhrase (sequel A B) ts rest
       by_way (past us) is x = joined us (first ts us is) (second us rest x)
       by_way (stuck left) is x = not-both rest left (sym x)
 
@@ -206,7 +206,7 @@ module _ (laws : SumLaws) where
           }
 
       by_way : ((us : List Symbol) → length us < n → walk (many k A) us ≡ past rest → IsPhrase (many k A) us rest)
-          → comes k ts ≡ true → (o : Outcome) → walk A (drop 1 ts) ≡ o → IsPhrase (many k A) ts rest
+          → comes k ts ≡ true → (o : WayOutcome) → walk A (drop 1 ts) ≡ o → IsPhrase (many k A) ts rest
       by_way again c (past us) is =
           let x = first-symbol k ts (fine-many k A f).some c in
           let p = each (drop 1 ts) us is in
@@ -247,7 +247,7 @@ module _ (laws : SumLaws) where
       }
 
       by_way : ((us : List Symbol) → length us < n → walk (until k A) us ≡ past rest → IsPhrase (until k A) us rest)
-          → comes k ts ≡ false → (o : Outcome) → walk A ts ≡ o → IsPhrase (until k A) ts rest
+          → comes k ts ≡ false → (o : WayOutcome) → walk A ts ≡ o → IsPhrase (until k A) ts rest
       by_way again c (past us) is =
           let g = fine-until k A f in
           let shorter = (taken-some A ts us g.some (taken laws A g.part ts us is)).1 in
@@ -334,7 +334,7 @@ module _ (laws : SumLaws) where
             ∙ h.dead vs s;
       }
 
-      by_way : (o : Outcome) → walk A ts ≡ o → onward (walk B) o ≡ stuck left → IsStuck (sequel A B) ts left
+      by_way : (o : WayOutcome) → walk A ts ≡ o → onward (walk B) o ≡ stuck left → IsStuck (sequel A B) ts left
       by_way (past us) is x = at_second us (phrase A (fine-sequel A B f).first ts us is) (second us left x)
       by_way (stuck m) is x = at_first (first ts left (is ∙ x))
 
@@ -428,7 +428,7 @@ module _ (laws : SumLaws) where
           }
 
       by_way : ((us : List Symbol) → length us < n → walk (many k A) us ≡ stuck left → IsStuck (many k A) us left)
-          → comes k ts ≡ true → (o : Outcome) → walk A (drop 1 ts) ≡ o → IsStuck (many k A) ts left
+          → comes k ts ≡ true → (o : WayOutcome) → walk A (drop 1 ts) ≡ o → IsStuck (many k A) ts left
       by_way again c (past us) is =
           let g = fine-many k A f in
           let x = first-symbol k ts g.some c in
@@ -486,7 +486,7 @@ module _ (laws : SumLaws) where
       }
 
       by_way : ((us : List Symbol) → length us < n → walk (until k A) us ≡ stuck left → IsStuck (until k A) us left)
-          → comes k ts ≡ false → (o : Outcome) → walk A ts ≡ o → IsStuck (until k A) ts left
+          → comes k ts ≡ false → (o : WayOutcome) → walk A ts ≡ o → IsStuck (until k A) ts left
       by_way again c (past us) is =
           let g = fine-until k A f in
           let shorter = (taken-some A ts us g.some (taken laws A g.part ts us is)).1 in

@@ -8,7 +8,7 @@ use Rattle.angle_fraction.specs.declared.signs.Binary.TheVariants.{Add, Sub, Mul
 use Rattle.qasm_parser.specs.Symbols.{Symbol}
 use Rattle.qasm_parser.specs.Tree.{Expression, most_depth}
 use Rattle.qasm_parser.specs.Machine.{Frame, minus, opened, called, before, Mode, front, opens, behind, reduced, Role, atom, begins, ends, calls, joins, none, binding, closed, closes, finished, open_in, parenthesis, reduce, role, run, tightness_of}
-use Rattle.qasm_parser.specs.Ways.{Outcome, past, Stand, lacking, calling, holding, finish, way}
+use Rattle.qasm_parser.specs.Ways.{WayOutcome, past, Stand, lacking, calling, holding, finish, way}
 use Rattle.qasm_parser.proofs.ExpressionLaws.{IsOutside, run-ends, run-joins, run-outside}
 use Rattle.qasm_parser.proofs.OpenLaws.{binding-some, open-some, reduce-open, reduce-waits}
 use Rattle.qasm_parser.proofs.ReaderWays.{SumsAgree, went}
@@ -37,7 +37,7 @@ module _ (limit : ℕ) (positive : 1 ≤ limit) where
       ∙ finished-at ts ((reduce limit 1 fs p).frames) ((reduce limit 1 fs p).part) (reduce-waits limit 1 fs p)
 
   -- a parenthesis ends behind a part
-  abbrev shut_at : ℕ → Symbol → List Symbol → Outcome
+  abbrev shut_at : ℕ → Symbol → List Symbol → WayOutcome
   shut_at zero t ts = past (t ∷ ts)
   shut_at (suc m) t ts = way m holding ts
 

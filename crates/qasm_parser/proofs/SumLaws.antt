@@ -12,13 +12,13 @@ use Rattle.qasm_parser.specs.declared.symbols.Mark.TheVariants.{Semicolon, Comma
 use Rattle.qasm_parser.specs.declared.symbols.Keyword.TheVariants.{OpenQasm, Include, Qreg, Creg, Gate, Opaque, Measure, Reset, If, Barrier, Pi, U, Cx}
 use Rattle.qasm_parser.specs.Symbols.{Symbol, word, function, name, whole, real, quoted, mark, sign, other}
 use Rattle.qasm_parser.specs.Tree.{Expression, negated, paren, call, binary, depth}
-use Rattle.qasm_parser.specs.Expressions.{IsShaped, IsWritten, SpellsSum, left_level, level, right_level, sign_level}
-use Rattle.qasm_parser.specs.Machine.{Frame, minus, opened, called, before, Mode, front, opens, behind, Role, atom, begins, ends, calls, joins, none, binding, capped, closed, finished, grown, joined, parenthesis, reduce, Reduced, reduced, role, run, sum_of, tightness, tightness_of}
+use Rattle.qasm_parser.specs.Expressions.{IsShaped, SpellsExpression, SpellsSum, left_level, level, right_level, sign_level}
+use Rattle.qasm_parser.specs.Machine.{Frame, minus, opened, called, before, Mode, front, opens, behind, Role, atom, begins, ends, calls, joins, none, binding, capped, closed, finished, grown, joined_parts, parenthesis, reduce, Reduced, reduced, role, run, read_sum, tightness, tightness_of}
 use Rattle.qasm_parser.proofs.ExpressionLaws.{IsOutside, NoSign, capped-atom, capped-grown, capped-joined, reduce-none, reduce-one, run-ends, run-joins, run-outside, tight, tight-bound}
 
 -- ---- what a symbol is, by its role
 abbrev pub IsAtom : Expression → Symbol → Type 0
-IsAtom e t = (IsShaped e) × (level e ≡ 5) × (depth e ≡ 1) × ((ts : List Symbol) → IsWritten e (t ∷ ts) ts)
+IsAtom e t = (IsShaped e) × (level e ≡ 5) × (depth e ≡ 1) × ((ts : List Symbol) → SpellsExpression e (t ∷ ts) ts)
 
 abbrev pub HasRole : Symbol → Role → Type 0
 HasRole t (atom e) = IsAtom e t
@@ -70,7 +70,7 @@ module _ (limit : ℕ) (positive : 1 ≤ limit) where
   Starts opened below ts rest = ts ≡ mark Open ∷ rest
   Starts (called f) below ts rest = ts ≡ function f ∷ mark Open ∷ rest
   Starts (before s c) below ts rest =
-      (l : Expression) × (c ≡ capped limit l) × IsShaped l × (left_level s ≤ level l) × IsWritten l ts (sign s ∷ rest) × (below < sign_level s)
+      (l : Expression) × (c ≡ capped limit l) × IsShaped l × (left_level s ≤ level l) × SpellsExpression l ts (sign s ∷ rest) × (below < sign_level s)
 
   abbrev pub Holds : List Frame → List Symbol → List Symbol → Type 0
   Holds [] ts rest = ts ≡ rest
@@ -82,13 +82,13 @@ module _ (limit : ℕ) (positive : 1 ≤ limit) where
     pub mid : List Symbol
     pub holds : Holds fs from mid
     pub shaped : IsShaped e
-    pub reads : IsWritten e mid rest
+    pub reads : SpellsExpression e mid rest
     pub is : c ≡ capped limit e
     pub level_of : least ≤ level e
     pub fits : tight fs < level e
 
   part_of : (from : List Symbol) (fs : List Frame) (c : Option Expression) (rest : List Symbol) (least : ℕ) (e : Expression) (mid : List Symbol)
-      → Holds fs from mid → IsShaped e → IsWritten e mid rest → c ≡ capped limit e → least ≤ level e → tight fs < level e → Part from fs c rest least
+      → Holds fs from mid → IsShaped e → SpellsExpression e mid rest → c ≡ capped limit e → least ≤ level e → tight fs < level e → Part from fs c rest least
   part_of from fs c rest least e mid h s r i l f = record { e = e; mid = mid; holds = h; shaped = s; reads = r; is = i; level_of = l; fits = f }
 
   lowered : (from : List Symbol) (fs : List Frame) (c : Option Expression) (rest : List Symbol) (least : ℕ) → least ≤ 5 → Part from fs c rest 5 → Part from fs c rest least
@@ -108,7 +108,7 @@ module _ (limit : ℕ) (positive : 1 ≤ limit) where
       part_of from fs _ rest least (binary s t.0 p.e) p.holds.0 p.holds.1
       (t.3, right_fits s (level p.e) p.fits, t.2, p.shaped)
       (p.mid, t.4, p.reads)
-      (ap (λ x. joined limit s x c) t.1 ∙ ap (joined limit s (capped limit t.0)) p.is ∙ capped-joined limit positive s t.0 p.e)
+      (ap (λ x. joined_parts limit s x c) t.1 ∙ ap (joined_parts limit s (capped limit t.0)) p.is ∙ capped-joined limit positive s t.0 p.e)
       (least_fits s b least binds low) t.5
     where
       right_fits : (s : Binary) (n : ℕ) → tightness_of s < n → right_level s ≤ n
@@ -171,7 +171,7 @@ module _ (limit : ℕ) (positive : 1 ≤ limit) where
       let q = k.part in
       record {
         e = q.e;
-        spelt = record { shaped = q.shaped; reads = subst (λ (x : List Symbol). IsWritten q.e from x) there (subst (λ (x : List Symbol). IsWritten q.e x ts) (sym q.holds) q.reads) };
+        spelt = record { shaped = q.shaped; reads = subst (λ (x : List Symbol). SpellsExpression q.e from x) there (subst (λ (x : List Symbol). SpellsExpression q.e x ts) (sym q.holds) q.reads) };
         is = sym same ∙ q.is;
         ended = subst NoSign there ended;
       }
@@ -194,7 +194,7 @@ module _ (limit : ℕ) (positive : 1 ≤ limit) where
       let few = tight-bound gs in
       again gs (behind (closed limit opened p)) from rest c
       (part_of from gs _ ts 5 (paren q.e) q.holds.0 q.holds.1 q.shaped
-      (q.mid, q.holds.2, subst (λ (x : Symbol). IsWritten q.e q.mid (x ∷ ts)) is q.reads)
+      (q.mid, q.holds.2, subst (λ (x : Symbol). SpellsExpression q.e q.mid (x ∷ ts)) is q.reads)
       (ap (grown limit paren) q.is ∙ capped-grown limit positive paren q.e refl) (omega arith) (omega arith))
       e
   parenthesis-sound from t ts rest (called f ∷ gs) p c is k ended again e =
@@ -202,7 +202,7 @@ module _ (limit : ℕ) (positive : 1 ≤ limit) where
       let few = tight-bound gs in
       again gs (behind (closed limit (called f) p)) from rest c
       (part_of from gs _ ts 5 (call f q.e) q.holds.0 q.holds.1 q.shaped
-      (q.mid, q.holds.2, subst (λ (x : Symbol). IsWritten q.e q.mid (x ∷ ts)) is q.reads)
+      (q.mid, q.holds.2, subst (λ (x : Symbol). SpellsExpression q.e q.mid (x ∷ ts)) is q.reads)
       (ap (grown limit (call f)) q.is ∙ capped-grown limit positive (call f) q.e refl) (omega arith) (omega arith))
       e
   parenthesis-sound from t ts rest (before s l ∷ gs) p c is k ended again e = cc
@@ -236,7 +236,7 @@ module _ (limit : ℕ) (positive : 1 ≤ limit) where
           let k = reduce-sound from (t ∷ ts) (binding s) (left_level s) fs p n.0 (joins_ok s) (lowered from fs p (t ∷ ts) (left_level s) n.1 stands) in
           let q = k.part in
           again _ front from rest c
-          (q.mid, q.holds, (q.e, q.is, q.shaped, q.level_of, subst (λ (x : Symbol). IsWritten q.e q.mid (x ∷ ts)) (role_is t (joins s) is) q.reads, (let w = k.waits in omega arith)))
+          (q.mid, q.holds, (q.e, q.is, q.shaped, q.level_of, subst (λ (x : Symbol). SpellsExpression q.e q.mid (x ∷ ts)) (role_is t (joins s) is) q.reads, (let w = k.waits in omega arith)))
           (sym (run-joins limit positive fs p t ts s is) ∙ e)
       by_role ends is =
           let k = reduce-sound from (t ∷ ts) 1 1 fs p (omega arith) (inr (omega arith)) (lowered from fs p (t ∷ ts) 1 (omega arith) stands) in
@@ -293,5 +293,5 @@ module _ (limit : ℕ) (positive : 1 ≤ limit) where
   run-sound (t ∷ ts) fs (opens g) from rest c stands e = opens-sound t ts (run-sound ts) g fs from rest c stands e
   run-sound (t ∷ ts) fs (behind p) from rest c stands e = behind-sound t ts (run-sound ts) fs p from rest c stands e
 
-  pub sum_of-sound : (ts rest : List Symbol) (c : Option Expression) → sum_of limit ts ≡ Some (c, rest) → Found ts rest c
+  pub sum_of-sound : (ts rest : List Symbol) (c : Option Expression) → read_sum limit ts ≡ Some (c, rest) → Found ts rest c
   sum_of-sound ts rest c e = run-sound ts [] front ts rest c refl e

@@ -12,7 +12,7 @@ use Rattle.qasm_parser.specs.declared.symbols.Mark.TheVariants.{Semicolon, Comma
 use Rattle.qasm_parser.specs.Symbols.{Symbol, word, function, name, whole, real, quoted, mark, sign, other}
 use Rattle.qasm_parser.specs.Machine.{Role, atom, begins, ends, calls, joins, none, role}
 use Rattle.qasm_parser.specs.Reading.{whole_number}
-use Rattle.qasm_parser.specs.Ways.{Outcome, past, stuck, Stand, lacking, calling, holding, is_some, sum, way}
+use Rattle.qasm_parser.specs.Ways.{WayOutcome, past, stuck, Stand, lacking, calling, holding, is_some, sum, way}
 use Rattle.qasm_parser.proofs.KindLaws.{both-left, both-right, either, look, opposite, symbol_number, whole_look}
 use Rattle.qasm_parser.proofs.WayForms.{Follows, SumLaws, is_atom, sum_starts, sum_stops}
 use Rattle.qasm_parser.proofs.WayLaws.{not-both, past-once, stuck-once}
@@ -129,7 +129,7 @@ move n holding an_opening = at_end n
 move n holding a_function = at_end n
 move n holding no_part = at_end n
 
-abbrev by_move : Move → List Symbol → Outcome
+abbrev by_move : Move → List Symbol → WayOutcome
 by_move (go n s) ts = way n s (drop 1 ts)
 by_move over ts = past ts
 by_move halt ts = stuck (length ts)

@@ -3,7 +3,7 @@
 --   symbol-first       a symbol has the value of the first of a list that it begins
 --   word_symbol-value, mark_symbol-value   a word or a sign has no value
 use Rattle.std.proofs.Common.{◌≡◌, ℕ, List, [], ◌∷◌, Option, Some, None, refl, ap, subst, ◌⊎◌, inl, inr}
-use Rattle.angle_fraction.specs.Fraction.{Fraction, nought}
+use Rattle.angle_fraction.specs.Fraction.{Fraction, zero_fraction}
 use Rattle.qasm_parser.specs.declared.symbols.Symbol.{Symbol}
 use Rattle.qasm_parser.specs.declared.symbols.Symbol.TheVariants.{Word, Function, Name, Whole, Real, Quoted, Mark, Sign, Other}
 use Rattle.qasm_parser.specs.declared.symbols.Keyword.{Keyword}
@@ -32,25 +32,25 @@ pub symbol-first : (s : Symbol) (v : Fraction) (x : spec.Symbol) (ts : List spec
     → x ∷ ts ≡ symbol s (spec.first_value (x ∷ ts)) ∷ ts
 symbol-first s v x ts e = subst (λ (y : spec.Symbol). y ∷ ts ≡ symbol s (spec.first_value (y ∷ ts)) ∷ ts) e (ap (λ y. y ∷ ts) (own-first s v ts))
 
-or_name-value : (w : List ℕ) (f : Option FunctionName) (ts : List spec.Symbol) → spec.first_value (spec.function_or_name w f ∷ ts) ≡ nought
+or_name-value : (w : List ℕ) (f : Option FunctionName) (ts : List spec.Symbol) → spec.first_value (spec.function_or_name w f ∷ ts) ≡ zero_fraction
 or_name-value w (Some f) ts = refl
 or_name-value w None ts = refl
 
-pub word_symbol-value : (w : List ℕ) (k : Option Keyword) (ts : List spec.Symbol) → spec.first_value (spec.word_symbol w k ∷ ts) ≡ nought
+pub word_symbol-value : (w : List ℕ) (k : Option Keyword) (ts : List spec.Symbol) → spec.first_value (spec.word_symbol w k ∷ ts) ≡ zero_fraction
 unfolding spec.word_symbol
 word_symbol-value w (Some k) ts = refl
 word_symbol-value w None ts = or_name-value w (spec.function_of w) ts
 
-or_other-value : (s : Option Binary) (ts : List spec.Symbol) → spec.first_value (spec.sign_or_other s ∷ ts) ≡ nought
+or_other-value : (s : Option Binary) (ts : List spec.Symbol) → spec.first_value (spec.sign_or_other s ∷ ts) ≡ zero_fraction
 or_other-value (Some s) ts = refl
 or_other-value None ts = refl
 
-pub mark_symbol-value : (w : List ℕ) (m : Option MarkSign) (ts : List spec.Symbol) → spec.first_value (spec.mark_symbol w m ∷ ts) ≡ nought
+pub mark_symbol-value : (w : List ℕ) (m : Option MarkSign) (ts : List spec.Symbol) → spec.first_value (spec.mark_symbol w m ∷ ts) ≡ zero_fraction
 unfolding spec.mark_symbol
 mark_symbol-value w (Some m) ts = refl
 mark_symbol-value w None ts = or_other-value (spec.sign_of w) ts
 
-pub word-value : (k : Kind) (w : List ℕ) (ts : List spec.Symbol) → (k ≡ KindWord) ⊎ ((k ≡ KindText) ⊎ (k ≡ KindSign)) → spec.first_value (spec.symbol_by k w ∷ ts) ≡ nought
+pub word-value : (k : Kind) (w : List ℕ) (ts : List spec.Symbol) → (k ≡ KindWord) ⊎ ((k ≡ KindText) ⊎ (k ≡ KindSign)) → spec.first_value (spec.symbol_by k w ∷ ts) ≡ zero_fraction
 unfolding spec.symbol_by
 word-value KindWord w ts e = word_symbol-value w (spec.keyword_of w) ts
 word-value KindWhole w ts e = elim e [ inl f ↦ cc | inr g ↦ elim g [ inl f ↦ cc | inr f ↦ cc ] ]

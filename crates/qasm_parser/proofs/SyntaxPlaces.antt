@@ -6,12 +6,12 @@
 use Rattle.std.proofs.Common.{◌≡◌, ℕ, zero, suc, ◌+◌, ◌-◌, ◌<◌, ◌≤◌, List, [], ◌∷◌, ◌++◌, Option, None, Some, length, length-append, take, refl, sym, ap, ◌∙◌, subst, arith, append_assoc, lit≤, inl, inr}
 use Rattle.std.proofs.lemmas.Bool.{cases_lt, cases_eq}
 use Rattle.qasm_lexer.specs.declared.Token.{Token}
-use Rattle.qasm_parser.specs.Spelling.{Seen, SpellsTree}
-use Rattle.qasm_parser.specs.Symbols.{Symbol, place_of, symbols}
+use Rattle.qasm_parser.specs.Spelling.{SeenExpression, SpellsTree}
+use Rattle.qasm_parser.specs.Symbols.{Symbol, token_place, symbols}
 use Rattle.qasm_parser.specs.Tree.{Tree, most_depth}
 use Rattle.qasm_parser.specs.Places.{Begins, IsStuckAt, IsSyntaxPlace}
 use Rattle.qasm_parser.specs.Reading.{Read, tree_of}
-use Rattle.qasm_parser.specs.Ways.{Outcome, past, stuck, walk}
+use Rattle.qasm_parser.specs.Ways.{WayOutcome, past, stuck, walk}
 use Rattle.qasm_parser.specs.Shapes.{tree_shape}
 use Rattle.qasm_parser.proofs.StatementLaws.{tree-complete, tree-sound}
 use Rattle.qasm_parser.proofs.KindLaws.{look}
@@ -23,18 +23,18 @@ use Rattle.qasm_parser.proofs.ReaderWays.{rests, tree-agrees, went}
 use Rattle.qasm_parser.proofs.LoopLaws.{ends-tree, fine-tree}
 
 -- ---- spelt and gone past
-pub walk-spelt : (ts : List Symbol) → walk tree_shape ts ≡ past [] → (t : Tree) × (found : List Seen) × SpellsTree t ts found
+pub walk-spelt : (ts : List Symbol) → walk tree_shape ts ≡ past [] → (t : Tree) × (found : List SeenExpression) × SpellsTree t ts found
 walk-spelt ts e = by_reading (tree_of most_depth ts) refl (ap went (sym e) ∙ tree-agrees most_depth sums-agree ts)
   where
-    by_reading : (o : Option (Read Tree)) → tree_of most_depth ts ≡ o → Some [] ≡ rests o → (t : Tree) × (found : List Seen) × SpellsTree t ts found
+    by_reading : (o : Option (Read Tree)) → tree_of most_depth ts ≡ o → Some [] ≡ rests o → (t : Tree) × (found : List SeenExpression) × SpellsTree t ts found
     by_reading None is h = absurd (cc)
     by_reading (Some r) is h = let s = tree-sound most_depth (lit≤ tt) ts r is in (s.it, s.found, s.spells)
 
-pub spelt-walk : (ts : List Symbol) (t : Tree) (found : List Seen) → SpellsTree t ts found → walk tree_shape ts ≡ past []
+pub spelt-walk : (ts : List Symbol) (t : Tree) (found : List SeenExpression) → SpellsTree t ts found → walk tree_shape ts ≡ past []
 spelt-walk ts t found s =
     by_outcome (walk tree_shape ts) (tree-agrees most_depth sums-agree ts ∙ ap rests (tree-complete most_depth (lit≤ tt) t ts found s))
   where
-    by_outcome : (o : Outcome) → went o ≡ Some [] → o ≡ past []
+    by_outcome : (o : WayOutcome) → went o ≡ Some [] → o ≡ past []
     by_outcome (past rest) h = ap past (let same : rest ≡ [] = cc in same)
     by_outcome (stuck left) h = absurd (cc)
 
@@ -60,7 +60,7 @@ stuck-at ts left h = record {
     taken : take (length h.front) ts ≡ h.front
     taken = ap (take (length h.front)) h.split ∙ take-front h.front h.back
 
-    done : (t : Tree) × (found : List Seen) × SpellsTree t (h.front ++ (h.begun.0 ++ [])) found
+    done : (t : Tree) × (found : List SeenExpression) × SpellsTree t (h.front ++ (h.begun.0 ++ [])) found
     done = walk-spelt (h.front ++ (h.begun.0 ++ [])) (h.begun.1 [] ends-tree)
 
     next : (back : List Symbol) → ts ≡ h.front ++ back → ((t : Symbol) (us vs : List Symbol) → back ≡ t ∷ us → walk tree_shape (h.front ++ t ∷ vs) ≡ stuck (length (t ∷ vs)))
@@ -75,13 +75,13 @@ stuck-at ts left h = record {
         let read : past [] ≡ stuck (length (t ∷ b.0)) = sym (spelt-walk (h.front ++ t ∷ b.0) b.1 b.2 spelt) ∙ dead t us b.0 refl in
         cc
 
-pub place-there : (text : List ℕ) (tokens : List Token) (left : ℕ) → walk tree_shape (symbols text tokens) ≡ stuck left → IsSyntaxPlace text tokens (place_of text tokens left)
+pub place-there : (text : List ℕ) (tokens : List Token) (left : ℕ) → walk tree_shape (symbols text tokens) ≡ stuck left → IsSyntaxPlace text tokens (token_place text tokens left)
 place-there text tokens left e =
     let h = stuck-there sum_laws tree_shape fine-tree (symbols text tokens) left e in
     let lengths : length (symbols text tokens) ≡ length h.front + length h.back = ap length h.split ∙ length-append h.front h.back in
-    (length h.front, stuck-at (symbols text tokens) left h, ap (place_of text tokens) (omega (arith, lengths, h.many)))
+    (length h.front, stuck-at (symbols text tokens) left h, ap (token_place text tokens) (omega (arith, lengths, h.many)))
 
-pub unspelt : (text : List ℕ) (tokens : List Token) (left : ℕ) → walk tree_shape (symbols text tokens) ≡ stuck left → (t : Tree) (found : List Seen) → SpellsTree t (symbols text tokens) found → ⊥
+pub unspelt : (text : List ℕ) (tokens : List Token) (left : ℕ) → walk tree_shape (symbols text tokens) ≡ stuck left → (t : Tree) (found : List SeenExpression) → SpellsTree t (symbols text tokens) found → ⊥
 unspelt text tokens left e t found s = let read : past [] ≡ stuck left = sym (spelt-walk (symbols text tokens) t found s) ∙ e in cc
 
 -- ---- one place
@@ -114,4 +114,4 @@ stuck-once ts j k g h = elim (cases_eq j k) [
 
 pub place-once : (text : List ℕ) (tokens : List Token) (a b : ℕ) → IsSyntaxPlace text tokens a → IsSyntaxPlace text tokens b → a ≡ b
 place-once text tokens a b (j, g, e) (k, h, f) =
-    e ∙ ap (λ n. place_of text tokens (length (symbols text tokens) - n)) (stuck-once (symbols text tokens) j k g h) ∙ sym f
+    e ∙ ap (λ n. token_place text tokens (length (symbols text tokens) - n)) (stuck-once (symbols text tokens) j k g h) ∙ sym f

@@ -7,7 +7,7 @@
 --   stuck-there      where a form is stuck
 use Rattle.std.proofs.Common.{◌≡◌, ℕ, zero, suc, ◌<◌, ◌≤◌, Bool, true, false, not, nat_eq, if◌then◌else◌, List, refl, sym, ap, ◌∙◌, drop, length, arith, ◌⊎◌, inl, inr}
 use Rattle.qasm_parser.specs.Symbols.{Symbol}
-use Rattle.qasm_parser.specs.Ways.{Kind, Outcome, past, stuck, Shape, nothing, one, sequel, choice, many, until, sum, comes, onward, many_turns, until_turns, walk}
+use Rattle.qasm_parser.specs.Ways.{Kind, WayOutcome, past, stuck, Shape, nothing, one, sequel, choice, many, until, sum, comes, onward, many_rounds, until_rounds, walk}
 use Rattle.qasm_parser.proofs.KindLaws.{IsSome, both, both-left, both-right, comes-look, either-left, either-right, first-symbol, kind_number, look, opposite}
 use Rattle.qasm_parser.proofs.WayForms.{SumLaws, Taken, apart, empty, fine, starts, stops}
 
@@ -28,18 +28,18 @@ pub true-false : {P : Type 0} (b : Bool) → b ≡ true → b ≡ false → P
 true-false b h g = absurd (let no : true ≡ false = sym h ∙ g in cc)
 
 -- ---- turns
-module _ (k : Kind) (R : List Symbol → Outcome) where
-  many-turn : (n : ℕ) (ts : List Symbol) → comes k ts ≡ true → many_turns k R (suc n) ts ≡ onward (many_turns k R n) (R (drop 1 ts))
-  many-turn n ts h = λ i. if h i then onward (many_turns k R n) (R (drop 1 ts)) else past ts
+module _ (k : Kind) (R : List Symbol → WayOutcome) where
+  many-turn : (n : ℕ) (ts : List Symbol) → comes k ts ≡ true → many_rounds k R (suc n) ts ≡ onward (many_rounds k R n) (R (drop 1 ts))
+  many-turn n ts h = λ i. if h i then onward (many_rounds k R n) (R (drop 1 ts)) else past ts
 
-  many-last : (n : ℕ) (ts : List Symbol) → comes k ts ≡ false → many_turns k R (suc n) ts ≡ past ts
-  many-last n ts h = λ i. if h i then onward (many_turns k R n) (R (drop 1 ts)) else past ts
+  many-last : (n : ℕ) (ts : List Symbol) → comes k ts ≡ false → many_rounds k R (suc n) ts ≡ past ts
+  many-last n ts h = λ i. if h i then onward (many_rounds k R n) (R (drop 1 ts)) else past ts
 
-  until-turn : (n : ℕ) (ts : List Symbol) → comes k ts ≡ false → until_turns k R (suc n) ts ≡ onward (until_turns k R n) (R ts)
-  until-turn n ts h = λ i. if h i then past ts else onward (until_turns k R n) (R ts)
+  until-turn : (n : ℕ) (ts : List Symbol) → comes k ts ≡ false → until_rounds k R (suc n) ts ≡ onward (until_rounds k R n) (R ts)
+  until-turn n ts h = λ i. if h i then past ts else onward (until_rounds k R n) (R ts)
 
-  until-last : (n : ℕ) (ts : List Symbol) → comes k ts ≡ true → until_turns k R (suc n) ts ≡ past ts
-  until-last n ts h = λ i. if h i then past ts else onward (until_turns k R n) (R ts)
+  until-last : (n : ℕ) (ts : List Symbol) → comes k ts ≡ true → until_rounds k R (suc n) ts ≡ past ts
+  until-last n ts h = λ i. if h i then past ts else onward (until_rounds k R n) (R ts)
 
   abbrev pub ManyShrinks : Type 0
   ManyShrinks = (ts rest : List Symbol) → comes k ts ≡ true → R (drop 1 ts) ≡ past rest → length rest < length ts
@@ -47,61 +47,61 @@ module _ (k : Kind) (R : List Symbol → Outcome) where
   abbrev pub UntilShrinks : Type 0
   UntilShrinks = (ts rest : List Symbol) → R ts ≡ past rest → length rest < length ts
 
-  many-enough : ManyShrinks → (n m : ℕ) (ts : List Symbol) → length ts < n → length ts < m → many_turns k R n ts ≡ many_turns k R m ts
+  many-enough : ManyShrinks → (n m : ℕ) (ts : List Symbol) → length ts < n → length ts < m → many_rounds k R n ts ≡ many_rounds k R m ts
   many-enough shrinks zero m ts h g = absurd (omega arith)
   many-enough shrinks (suc n) zero ts h g = absurd (omega arith)
   many-enough shrinks (suc n) (suc m) ts h g = by_test (λ us a b. many-enough shrinks n m us a b) (comes k ts) refl
     where
-      by_way : ((us : List Symbol) → length us < n → length us < m → many_turns k R n us ≡ many_turns k R m us)
-          → comes k ts ≡ true → (o : Outcome) → R (drop 1 ts) ≡ o → onward (many_turns k R n) o ≡ onward (many_turns k R m) o
+      by_way : ((us : List Symbol) → length us < n → length us < m → many_rounds k R n us ≡ many_rounds k R m us)
+          → comes k ts ≡ true → (o : WayOutcome) → R (drop 1 ts) ≡ o → onward (many_rounds k R n) o ≡ onward (many_rounds k R m) o
       by_way again c (past us) is = let shorter = shrinks ts us c is in again us (omega arith) (omega arith)
       by_way again c (stuck left) is = refl
 
-      by_test : ((us : List Symbol) → length us < n → length us < m → many_turns k R n us ≡ many_turns k R m us)
-          → (b : Bool) → comes k ts ≡ b → many_turns k R (suc n) ts ≡ many_turns k R (suc m) ts
+      by_test : ((us : List Symbol) → length us < n → length us < m → many_rounds k R n us ≡ many_rounds k R m us)
+          → (b : Bool) → comes k ts ≡ b → many_rounds k R (suc n) ts ≡ many_rounds k R (suc m) ts
       by_test again true c = many-turn n ts c ∙ by_way again c (R (drop 1 ts)) refl ∙ sym (many-turn m ts c)
       by_test again false c = many-last n ts c ∙ sym (many-last m ts c)
 
-  until-enough : UntilShrinks → (n m : ℕ) (ts : List Symbol) → length ts < n → length ts < m → until_turns k R n ts ≡ until_turns k R m ts
+  until-enough : UntilShrinks → (n m : ℕ) (ts : List Symbol) → length ts < n → length ts < m → until_rounds k R n ts ≡ until_rounds k R m ts
   until-enough shrinks zero m ts h g = absurd (omega arith)
   until-enough shrinks (suc n) zero ts h g = absurd (omega arith)
   until-enough shrinks (suc n) (suc m) ts h g = by_test (λ us a b. until-enough shrinks n m us a b) (comes k ts) refl
     where
-      by_way : ((us : List Symbol) → length us < n → length us < m → until_turns k R n us ≡ until_turns k R m us)
-          → (o : Outcome) → R ts ≡ o → onward (until_turns k R n) o ≡ onward (until_turns k R m) o
+      by_way : ((us : List Symbol) → length us < n → length us < m → until_rounds k R n us ≡ until_rounds k R m us)
+          → (o : WayOutcome) → R ts ≡ o → onward (until_rounds k R n) o ≡ onward (until_rounds k R m) o
       by_way again (past us) is = let shorter = shrinks ts us is in again us (omega arith) (omega arith)
       by_way again (stuck left) is = refl
 
-      by_test : ((us : List Symbol) → length us < n → length us < m → until_turns k R n us ≡ until_turns k R m us)
-          → (b : Bool) → comes k ts ≡ b → until_turns k R (suc n) ts ≡ until_turns k R (suc m) ts
+      by_test : ((us : List Symbol) → length us < n → length us < m → until_rounds k R n us ≡ until_rounds k R m us)
+          → (b : Bool) → comes k ts ≡ b → until_rounds k R (suc n) ts ≡ until_rounds k R (suc m) ts
       by_test again true c = until-last n ts c ∙ sym (until-last m ts c)
       by_test again false c = until-turn n ts c ∙ by_way again (R ts) refl ∙ sym (until-turn m ts c)
 
   pub turns-on : ManyShrinks → (ts us : List Symbol) → comes k ts ≡ true → R (drop 1 ts) ≡ past us
-      → many_turns k R (suc (length ts)) ts ≡ many_turns k R (suc (length us)) us
+      → many_rounds k R (suc (length ts)) ts ≡ many_rounds k R (suc (length us)) us
   turns-on shrinks ts us c e =
       let shorter = shrinks ts us c e in
-      many-turn (length ts) ts c ∙ ap (onward (many_turns k R (length ts))) e ∙ many-enough shrinks (length ts) (suc (length us)) us (omega arith) (omega arith)
+      many-turn (length ts) ts c ∙ ap (onward (many_rounds k R (length ts))) e ∙ many-enough shrinks (length ts) (suc (length us)) us (omega arith) (omega arith)
 
-  pub turns-stuck : (ts : List Symbol) (left : ℕ) → comes k ts ≡ true → R (drop 1 ts) ≡ stuck left → many_turns k R (suc (length ts)) ts ≡ stuck left
-  turns-stuck ts left c e = many-turn (length ts) ts c ∙ ap (onward (many_turns k R (length ts))) e
+  pub turns-stuck : (ts : List Symbol) (left : ℕ) → comes k ts ≡ true → R (drop 1 ts) ≡ stuck left → many_rounds k R (suc (length ts)) ts ≡ stuck left
+  turns-stuck ts left c e = many-turn (length ts) ts c ∙ ap (onward (many_rounds k R (length ts))) e
 
   pub again-on : UntilShrinks → (ts us : List Symbol) → comes k ts ≡ false → R ts ≡ past us
-      → until_turns k R (suc (length ts)) ts ≡ until_turns k R (suc (length us)) us
+      → until_rounds k R (suc (length ts)) ts ≡ until_rounds k R (suc (length us)) us
   again-on shrinks ts us c e =
       let shorter = shrinks ts us e in
-      until-turn (length ts) ts c ∙ ap (onward (until_turns k R (length ts))) e ∙ until-enough shrinks (length ts) (suc (length us)) us (omega arith) (omega arith)
+      until-turn (length ts) ts c ∙ ap (onward (until_rounds k R (length ts))) e ∙ until-enough shrinks (length ts) (suc (length us)) us (omega arith) (omega arith)
 
-  pub again-stuck : (ts : List Symbol) (left : ℕ) → comes k ts ≡ false → R ts ≡ stuck left → until_turns k R (suc (length ts)) ts ≡ stuck left
-  again-stuck ts left c e = until-turn (length ts) ts c ∙ ap (onward (until_turns k R (length ts))) e
+  pub again-stuck : (ts : List Symbol) (left : ℕ) → comes k ts ≡ false → R ts ≡ stuck left → until_rounds k R (suc (length ts)) ts ≡ stuck left
+  again-stuck ts left c e = until-turn (length ts) ts c ∙ ap (onward (until_rounds k R (length ts))) e
 
   -- what some turns read
-  many-taken : ManyShrinks → (n : ℕ) (ts rest : List Symbol) → many_turns k R n ts ≡ past rest → (ts ≡ rest) ⊎ ((comes k ts ≡ true) × (length rest < length ts))
+  many-taken : ManyShrinks → (n : ℕ) (ts rest : List Symbol) → many_rounds k R n ts ≡ past rest → (ts ≡ rest) ⊎ ((comes k ts ≡ true) × (length rest < length ts))
   many-taken shrinks zero ts rest e = not-both' rest (length ts) e
   many-taken shrinks (suc n) ts rest e = by_test (λ us x. many-taken shrinks n us rest x) (comes k ts) refl
     where
-      by_way : ((us : List Symbol) → many_turns k R n us ≡ past rest → (us ≡ rest) ⊎ ((comes k us ≡ true) × (length rest < length us)))
-          → comes k ts ≡ true → (o : Outcome) → R (drop 1 ts) ≡ o → onward (many_turns k R n) o ≡ past rest → length rest < length ts
+      by_way : ((us : List Symbol) → many_rounds k R n us ≡ past rest → (us ≡ rest) ⊎ ((comes k us ≡ true) × (length rest < length us)))
+          → comes k ts ≡ true → (o : WayOutcome) → R (drop 1 ts) ≡ o → onward (many_rounds k R n) o ≡ past rest → length rest < length ts
       by_way again c (past us) is x =
           let shorter = shrinks ts us c is in
           elim (again us x) [
@@ -110,7 +110,7 @@ module _ (k : Kind) (R : List Symbol → Outcome) where
           ]
       by_way again c (stuck left) is x = not-both' rest left x
 
-      by_test : ((us : List Symbol) → many_turns k R n us ≡ past rest → (us ≡ rest) ⊎ ((comes k us ≡ true) × (length rest < length us)))
+      by_test : ((us : List Symbol) → many_rounds k R n us ≡ past rest → (us ≡ rest) ⊎ ((comes k us ≡ true) × (length rest < length us)))
           → (b : Bool) → comes k ts ≡ b → (ts ≡ rest) ⊎ ((comes k ts ≡ true) × (length rest < length ts))
       by_test again true c = inr (c, by_way again c (R (drop 1 ts)) refl (sym (many-turn n ts c) ∙ e))
       by_test again false c = inl (past-once ts rest (sym (many-last n ts c) ∙ e))
@@ -118,12 +118,12 @@ module _ (k : Kind) (R : List Symbol → Outcome) where
   abbrev Went : List Symbol → List Symbol → Type 0
   Went rest us = (us ≡ rest) ⊎ (((vs : List Symbol) × (R us ≡ past vs)) × (length rest < length us))
 
-  until-taken : UntilShrinks → (n : ℕ) (ts rest : List Symbol) → until_turns k R n ts ≡ past rest → Went rest ts
+  until-taken : UntilShrinks → (n : ℕ) (ts rest : List Symbol) → until_rounds k R n ts ≡ past rest → Went rest ts
   until-taken shrinks zero ts rest e = not-both' rest (length ts) e
   until-taken shrinks (suc n) ts rest e = by_test (λ us x. until-taken shrinks n us rest x) (comes k ts) refl
     where
-      by_way : ((us : List Symbol) → until_turns k R n us ≡ past rest → Went rest us)
-          → (o : Outcome) → R ts ≡ o → onward (until_turns k R n) o ≡ past rest → Went rest ts
+      by_way : ((us : List Symbol) → until_rounds k R n us ≡ past rest → Went rest us)
+          → (o : WayOutcome) → R ts ≡ o → onward (until_rounds k R n) o ≡ past rest → Went rest ts
       by_way again (past us) is x =
           let shorter = shrinks ts us is in
           inr (
@@ -135,7 +135,7 @@ module _ (k : Kind) (R : List Symbol → Outcome) where
           )
       by_way again (stuck left) is x = not-both' rest left x
 
-      by_test : ((us : List Symbol) → until_turns k R n us ≡ past rest → Went rest us) → (b : Bool) → comes k ts ≡ b → Went rest ts
+      by_test : ((us : List Symbol) → until_rounds k R n us ≡ past rest → Went rest us) → (b : Bool) → comes k ts ≡ b → Went rest ts
       by_test again true c = inl (past-once ts rest (sym (until-last n ts c) ∙ e))
       by_test again false c = by_way again (R ts) refl (sym (until-turn n ts c) ∙ e)
 
@@ -258,7 +258,7 @@ module _ (laws : SumLaws) where
       joined us (inr a) b = inr (either-left (starts A (look ts)) (both (empty A) (starts B (look ts))) a.0, (let l = taken-length B us rest b in omega (arith, a.1)))
 
       by_way : ((us : List Symbol) → walk A ts ≡ past us → Taken A ts us) → ((us : List Symbol) → walk B us ≡ past rest → Taken B us rest)
-          → (o : Outcome) → walk A ts ≡ o → onward (walk B) o ≡ past rest → Taken (sequel A B) ts rest
+          → (o : WayOutcome) → walk A ts ≡ o → onward (walk B) o ≡ past rest → Taken (sequel A B) ts rest
       by_way first second (past us) is x = joined us (first us is) (second us x)
       by_way first second (stuck left) is x = not-both' rest left x
   taken (choice k A B) f ts rest e =

@@ -2,7 +2,7 @@
 --   sign_level, level   1 for a sum, 2 a product, 3 a signed part, 4 a power, 5 an atom
 --   left_level, right_level   the least level of what stands to the left and right of a sign
 --   IsShaped        each part has a level that may stand in its place without parentheses
---   IsWritten e ts rest   the symbols ts are those of an expression, part by part, and then rest
+--   SpellsExpression e ts rest  the symbols ts are those of an expression, part by part, and then rest
 --   SpellsSum       the same, each part in its level
 use Rattle.std.specs.Prelude.{◌≡◌, ℕ, ◌≤◌, List, ◌∷◌, ◌⊎◌}
 use Rattle.angle_fraction.specs.declared.signs.Binary.{Binary}
@@ -47,16 +47,16 @@ IsShaped (binary s left right) =
     (left_level s ≤ level left) × (right_level s ≤ level right) × IsShaped left × IsShaped right
 IsShaped _ = Unit {0}
 
-abbrev pub IsWritten : Expression → List Symbol → List Symbol → Type 0
-IsWritten (number value) ts rest = (ts ≡ whole value ∷ rest) ⊎ (ts ≡ real value ∷ rest)
-IsWritten pi ts rest = ts ≡ word Pi ∷ rest
-IsWritten (param bytes) ts rest = ts ≡ name bytes ∷ rest
-IsWritten (negated part) ts rest = (mid : List Symbol) × (ts ≡ sign Sub ∷ mid) × IsWritten part mid rest
-IsWritten (paren part) ts rest = (mid : List Symbol) × (ts ≡ mark Open ∷ mid) × IsWritten part mid (mark Close ∷ rest)
-IsWritten (call f part) ts rest =
-    (mid : List Symbol) × (ts ≡ function f ∷ mark Open ∷ mid) × IsWritten part mid (mark Close ∷ rest)
-IsWritten (binary s left right) ts rest = (mid : List Symbol) × IsWritten left ts (sign s ∷ mid) × IsWritten right mid rest
+abbrev pub SpellsExpression : Expression → List Symbol → List Symbol → Type 0
+SpellsExpression (number value) ts rest = (ts ≡ whole value ∷ rest) ⊎ (ts ≡ real value ∷ rest)
+SpellsExpression pi ts rest = ts ≡ word Pi ∷ rest
+SpellsExpression (param bytes) ts rest = ts ≡ name bytes ∷ rest
+SpellsExpression (negated part) ts rest = (mid : List Symbol) × (ts ≡ sign Sub ∷ mid) × SpellsExpression part mid rest
+SpellsExpression (paren part) ts rest = (mid : List Symbol) × (ts ≡ mark Open ∷ mid) × SpellsExpression part mid (mark Close ∷ rest)
+SpellsExpression (call f part) ts rest =
+    (mid : List Symbol) × (ts ≡ function f ∷ mark Open ∷ mid) × SpellsExpression part mid (mark Close ∷ rest)
+SpellsExpression (binary s left right) ts rest = (mid : List Symbol) × SpellsExpression left ts (sign s ∷ mid) × SpellsExpression right mid rest
 
 pub record SpellsSum (e : Expression) (ts rest : List Symbol) : Type 0 where
   pub shaped : IsShaped e
-  pub reads : IsWritten e ts rest
+  pub reads : SpellsExpression e ts rest

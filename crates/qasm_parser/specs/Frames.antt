@@ -8,7 +8,7 @@ use Rattle.qasm_parser.specs.declared.frames.Frame.{Frame}
 use Rattle.qasm_parser.specs.declared.frames.Frame.TheVariants.{Minus, Paren, Call, Left}
 use Rattle.qasm_parser.specs.declared.frames.Frames.{Frames}
 use Rattle.qasm_parser.specs.declared.part.Part.{Part}
-use Rattle.qasm_parser.specs.Parts.{part_of}
+use Rattle.qasm_parser.specs.Parts.{part_expression}
 use Rattle.qasm_parser.specs.Tree.{Expression}
 use Rattle.qasm_parser.specs.Machine as spec
 
@@ -20,7 +20,7 @@ frame_with (Left s) left = spec.before s left
 
 abbrev pub first_left : List (Option Part) → Option Expression
 first_left [] = None
-first_left (left ∷ lefts) = part_of left
+first_left (left ∷ lefts) = part_expression left
 
 abbrev pub frames_of : List Frame → List (Option Part) → List spec.Frame
 frames_of [] lefts = []

@@ -1,6 +1,6 @@
 -- Working form. Reading an expression from left to right with a stack.
 --   capped         an expression that is at most so deep; none for a deeper one
---   grown, joined  a part put into a greater one
+--   grown, joined_parts  a part put into a greater one
 --   Frame          what was begun and waits for its right part
 --   minus, opened, called, before   a minus in front; a parenthesis; that of a function; a sign of two parts behind its left one
 --   binding, tightness_of   how tightly a sign of two parts holds what is left of it, and what is right of it
@@ -19,7 +19,7 @@
 --   finished       the part, and the symbols after it, where no frame is open
 --   run            the expression that is read to its end, and the symbols after it
 --   parenthesis    the same where a parenthesis ends behind a part
---   sum_of         the same, from the beginning
+--   read_sum       the same, from the beginning
 use Rattle.std.specs.Prelude.{ℕ, suc, Bool, false, drop, nat_le, List, [], ◌∷◌, Option, Some, None, if◌then◌else◌}
 use Rattle.angle_fraction.specs.declared.signs.Function.{Function}
 use Rattle.angle_fraction.specs.declared.signs.Binary.{Binary}
@@ -38,10 +38,10 @@ abbrev pub grown : ℕ → (Expression → Expression) → Option Expression →
 grown limit f (Some e) = capped limit (f e)
 grown limit f None = None
 
-abbrev pub joined : ℕ → Binary → Option Expression → Option Expression → Option Expression
-joined limit s (Some left) (Some right) = capped limit (binary s left right)
-joined limit s (Some left) None = None
-joined limit s None right = None
+abbrev pub joined_parts : ℕ → Binary → Option Expression → Option Expression → Option Expression
+joined_parts limit s (Some left) (Some right) = capped limit (binary s left right)
+joined_parts limit s (Some left) None = None
+joined_parts limit s None right = None
 
 pub data Frame : Type 0 where
   minus : Frame
@@ -79,7 +79,7 @@ abbrev pub closed : ℕ → Frame → Option Expression → Option Expression
 closed limit minus part = grown limit negated part
 closed limit opened part = grown limit paren part
 closed limit (called f) part = grown limit (call f) part
-closed limit (before s left) part = joined limit s left part
+closed limit (before s left) part = joined_parts limit s left part
 
 pub record Reduced : Type 0 where
   pub frames : List Frame
@@ -176,5 +176,5 @@ parenthesis limit fs part ts = elim fs [
   ]
 ]
 
-abbrev pub sum_of : ℕ → List Symbol → Option (Option Expression × List Symbol)
-sum_of limit ts = run limit [] front ts
+abbrev pub read_sum : ℕ → List Symbol → Option (Option Expression × List Symbol)
+read_sum limit ts = run limit [] front ts

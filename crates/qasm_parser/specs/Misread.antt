@@ -3,8 +3,8 @@
 use Rattle.std.specs.Prelude.{◌≡◌, ⊤}
 use Rattle.qasm_parser.specs.declared.stop.ParseStop.{ParseStop}
 use Rattle.qasm_parser.specs.declared.stop.ParseStop.TheVariants.{NoMemory, Misfit}
-use Rattle.qasm_parser.specs.Ways.{Outcome, stuck}
+use Rattle.qasm_parser.specs.Ways.{WayOutcome, stuck}
 
-abbrev pub IsMisread : Outcome → ParseStop → Type 0
+abbrev pub IsMisread : WayOutcome → ParseStop → Type 0
 IsMisread outcome NoMemory = ⊤
 IsMisread outcome (Misfit left) = outcome ≡ stuck left

@@ -4,20 +4,20 @@
 --   infixl 10 ◌>>=◌  the second is made from what the first gives; nothing where that gives nothing
 --   first_of         the first of two places, where there is one
 --   mark_code, is_mark   a mark as a number; the symbol is this mark
---   begins_with, skip   this mark comes next; what is left behind it, if it comes next
+--   begins_with_mark, skip  this mark comes next; what is left behind it, if it comes next
 --   repeat, all      steps as long as they give something more
 --   onto             what was read before that, put in front
 --   more_of          one more behind a comma, or none where no comma comes next
 --   list_of          at least one, with commas between
---   name_of, whole_of, bracketed_of, index_of, arg_of, angle_of   members of lists and their parts
+--   name_of, whole_of, bracketed_of, optional_index_of, arg_of, angle_of  members of lists and their parts
 --   natural, whole_number   the number that an integer or a fraction is, if it is one from 0 on
 --   argument         the argument of this name and this index
---   kept, deep_from  of an expression that may be too deep: itself or pi; where it begins if it is so
+--   kept_or_pi, deep_from  of an expression that may be too deep: itself or pi; where it begins if it is so
 --   Head, head       a gate's name and its angles
 --   angles_of, optional_of, angles_of_u   angles up to the end of the parenthesis; those behind a name, if any; those behind `U`
---   with_gate, word_head   angles with the gate's name; `U` with its angles, or `CX`, from behind the word
+--   with_gate_name, word_head  angles with the gate's name; `U` with its angles, or `CX`, from behind the word
 --   args_of          arguments up to the semicolon
---   applied, with_apply, with_act   a head with its arguments; that as an action; an action as a statement
+--   applied_head, with_apply, with_act  a head with its arguments; that as an action; an action as a statement
 --   measure_of, reset_of, barrier_of   actions from behind the word
 --   word_code        a reserved word as a number
 --   first_word       the reserved word that comes next
@@ -38,7 +38,7 @@ use Rattle.qasm_parser.specs.declared.symbols.Mark.{Mark}
 use Rattle.qasm_parser.specs.declared.symbols.Mark.TheVariants.{Semicolon, Comma, Open, Close, OpenBracket, CloseBracket, OpenBrace, CloseBrace, Arrow, Equals}
 use Rattle.qasm_parser.specs.Symbols.{Symbol, word, name, whole, real, quoted, mark}
 use Rattle.qasm_parser.specs.Tree.{Expression, pi, Application, Action, apply, measure, reset, barrier, Definition, definition, Statement, include, register, gate, opaque, conditional, act, Tree}
-use Rattle.qasm_parser.specs.Machine.{sum_of}
+use Rattle.qasm_parser.specs.Machine.{read_sum}
 
 pub record Read (A : Type 0) : Type 0 where
   pub value : A
@@ -73,9 +73,9 @@ abbrev pub is_mark : Mark → Symbol → Bool
 is_mark m (mark n) = nat_eq (mark_code m) (mark_code n)
 is_mark m _ = false
 
-abbrev pub begins_with : Mark → List Symbol → Bool
-begins_with m [] = false
-begins_with m (t ∷ ts) = is_mark m t
+abbrev pub begins_with_mark : Mark → List Symbol → Bool
+begins_with_mark m [] = false
+begins_with_mark m (t ∷ ts) = is_mark m t
 
 abbrev pub skip : Mark → List Symbol → Option (List Symbol)
 skip m [] = None
@@ -133,8 +133,8 @@ abbrev pub argument : List ℕ → Option ℕ → Arg
 argument bytes index = record { name = bytes; index = index }
 
 -- in a body arguments are plain
-abbrev pub index_of : Bool → List Symbol → Option (Read (Option ℕ))
-index_of plain ts =
+abbrev pub optional_index_of : Bool → List Symbol → Option (Read (Option ℕ))
+optional_index_of plain ts =
     elim plain [
       | true ↦ Some (read None None ts)
       | false ↦ elim (skip OpenBracket ts) [
@@ -146,19 +146,19 @@ index_of plain ts =
 unfoldable pub arg_of : Bool → List Symbol → Option (Read Arg)
 arg_of plain ts = do
   n ← name_of ts
-  i ← index_of plain n.rest
+  i ← optional_index_of plain n.rest
   Some (read (argument n.value i.value) None i.rest)
 
-abbrev pub kept : Option Expression → Expression
-kept (Some e) = e
-kept None = pi
+abbrev pub kept_or_pi : Option Expression → Expression
+kept_or_pi (Some e) = e
+kept_or_pi None = pi
 
 abbrev pub deep_from : ℕ → Option Expression → Option ℕ
 deep_from left (Some e) = None
 deep_from left None = Some left
 
 unfoldable pub angle_of : ℕ → List Symbol → Option (Read Expression)
-angle_of limit ts = option_map (λ r. read (kept r.0) (deep_from (length ts) r.0) r.1) (sum_of limit ts)
+angle_of limit ts = option_map (λ r. read (kept_or_pi r.0) (deep_from (length ts) r.0) r.1) (read_sum limit ts)
 
 -- ---- applications
 pub record Head : Type 0 where
@@ -187,11 +187,11 @@ angles_of_u limit ts = do
   us ← skip Open ts
   angles_of limit us
 
-abbrev pub with_gate : List ℕ → Option (Read (List Expression)) → Option (Read Head)
-with_gate bytes r = option_map (λ es. read (head bytes es.value) es.deep es.rest) r
+abbrev pub with_gate_name : List ℕ → Option (Read (List Expression)) → Option (Read Head)
+with_gate_name bytes r = option_map (λ es. read (head bytes es.value) es.deep es.rest) r
 
 abbrev pub word_head : ℕ → Keyword → List Symbol → Option (Read Head)
-word_head limit U ts = with_gate (codes "U") (angles_of_u limit ts)
+word_head limit U ts = with_gate_name (codes "U") (angles_of_u limit ts)
 word_head limit Cx ts = Some (read (head (codes "CX") []) None ts)
 word_head limit _ ts = None
 
@@ -199,7 +199,7 @@ unfoldable pub head_of : ℕ → List Symbol → Option (Read Head)
 head_of limit [] = None
 head_of limit (t ∷ ts) = elim t [
   | word k ↦ word_head limit k ts
-  | name bytes ↦ with_gate bytes (optional_of limit ts)
+  | name bytes ↦ with_gate_name bytes (optional_of limit ts)
   | _ ↦ None
 ]
 
@@ -210,14 +210,14 @@ args_of plain ts = do
   rest ← skip Semicolon args.rest
   Some (read args.value None rest)
 
-abbrev pub applied : Head → List Arg → Application
-applied h args = record { gate = h.gate; angles = h.angles; args = args }
+abbrev pub applied_head : Head → List Arg → Application
+applied_head h args = record { gate = h.gate; angles = h.angles; args = args }
 
 unfoldable pub application_of : ℕ → Bool → List Symbol → Option (Read Application)
 application_of limit plain ts = do
   h ← head_of limit ts
   args ← args_of plain h.rest
-  Some (read (applied h.value args.value) h.deep args.rest)
+  Some (read (applied_head h.value args.value) h.deep args.rest)
 
 abbrev pub with_apply : Option (Read Application) → Option (Read Action)
 with_apply r = option_map (λ a. read (apply a.value) a.deep a.rest) r
@@ -288,7 +288,7 @@ item_of limit (word k ∷ ts) = word_item limit k ts
 item_of limit (t ∷ ts) = with_apply (application_of limit true (t ∷ ts))
 
 abbrev pub more_items : ℕ → List Symbol → Option (Option (Read Action))
-more_items limit ts = if begins_with CloseBrace ts then Some None else option_map Some (item_of limit ts)
+more_items limit ts = if begins_with_mark CloseBrace ts then Some None else option_map Some (item_of limit ts)
 
 -- the body behind its brace, up to its end
 unfoldable pub body_of : ℕ → List Symbol → Option (Read (List Action))

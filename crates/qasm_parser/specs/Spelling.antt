@@ -1,12 +1,12 @@
 -- Programs: how they are spelt. Below, `SpellsIt it ts rest found` says: the symbols ts are those of it, and then rest;
 -- found are the expressions in it, from left to right.
---   Seen, seen      an expression: how many symbols there are from its first to the end, and how deep it is
+--   SeenExpression, seen  an expression: how many symbols there are from its first to the end, and how deep it is
 --   first_deep      where the first expression begins that is deeper than a limit
 --   Grammar         the relations of this kind
 --   SpellsEach      all of a list, one after the other
 --   BehindComma, SpellsList   one behind a comma; at least one, with commas between
 --   SpellsAngle, SpellsName, SpellsArg, SpellsArgs   members of lists; arguments up to the semicolon
---   whole_symbol, index_symbols, IsAllowed   a whole number; an index in brackets, or none; none in a gate's body
+--   whole_symbol, index_symbols, IsAllowedIndex  a whole number; an index in brackets, or none; none in a gate's body
 --   Form, SpellsForm   a gate's name and its angles: `U` and `CX`, a name alone, with nothing in parentheses, or with angles there
 --   by_u, by_cx, alone, empty, listed   these five, in this order
 --   SpellsApplication, SpellsBarrier, SpellsAction
@@ -24,40 +24,40 @@ use Rattle.qasm_parser.specs.Symbols.{Symbol, word, name, whole, real, quoted, m
 use Rattle.qasm_parser.specs.Tree.{Expression, depth, Application, Action, apply, measure, reset, barrier, Definition, Statement, include, register, gate, opaque, conditional, act, Tree}
 use Rattle.qasm_parser.specs.Expressions.{SpellsSum}
 
-pub record Seen : Type 0 where
+pub record SeenExpression : Type 0 where
   pub left : ℕ
   pub depth : ℕ
 
-abbrev pub seen : ℕ → ℕ → Seen
+abbrev pub seen : ℕ → ℕ → SeenExpression
 seen left depth = record { left = left; depth = depth }
 
 -- how many symbols there are from the first expression that is deeper than the limit
-abbrev pub first_deep : ℕ → List Seen → Option ℕ
+abbrev pub first_deep : ℕ → List SeenExpression → Option ℕ
 first_deep limit [] = None
 first_deep limit (s ∷ found) = if nat_le s.depth limit then first_deep limit found else Some s.left
 
 -- ---- lists
 abbrev pub Grammar : Type 0 → Type 1
-Grammar A = A → List Symbol → List Symbol → List Seen → Type 0
+Grammar A = A → List Symbol → List Symbol → List SeenExpression → Type 0
 
-abbrev pub SpellsEach : {A : Type 0} → Grammar A → List A → List Symbol → List Symbol → List Seen → Type 0
+abbrev pub SpellsEach : {A : Type 0} → Grammar A → List A → List Symbol → List Symbol → List SeenExpression → Type 0
 SpellsEach R [] ts rest found = (ts ≡ rest) × (found ≡ [])
 SpellsEach R (x ∷ xs) ts rest found =
-    (mid : List Symbol) × (here : List Seen) × (later : List Seen) × R x ts mid here × SpellsEach R xs mid rest later × (found ≡ here ++ later)
+    (mid : List Symbol) × (here : List SeenExpression) × (later : List SeenExpression) × R x ts mid here × SpellsEach R xs mid rest later × (found ≡ here ++ later)
 
-abbrev pub BehindComma : {A : Type 0} → Grammar A → A → List Symbol → List Symbol → List Seen → Type 0
+abbrev pub BehindComma : {A : Type 0} → Grammar A → A → List Symbol → List Symbol → List SeenExpression → Type 0
 BehindComma R x ts rest found = (mid : List Symbol) × (ts ≡ mark Comma ∷ mid) × R x mid rest found
 
-abbrev pub SpellsList : {A : Type 0} → Grammar A → List A → List Symbol → List Symbol → List Seen → Type 0
+abbrev pub SpellsList : {A : Type 0} → Grammar A → List A → List Symbol → List Symbol → List SeenExpression → Type 0
 SpellsList R [] ts rest found = ⊥
 SpellsList R (x ∷ xs) ts rest found =
-    (mid : List Symbol) × (here : List Seen) × (later : List Seen) × R x ts mid here × SpellsEach (BehindComma R) xs mid rest later × (found ≡ here ++ later)
+    (mid : List Symbol) × (here : List SeenExpression) × (later : List SeenExpression) × R x ts mid here × SpellsEach (BehindComma R) xs mid rest later × (found ≡ here ++ later)
 
 -- ---- members of lists
-abbrev pub SpellsAngle : Expression → List Symbol → List Symbol → List Seen → Type 0
+abbrev pub SpellsAngle : Expression → List Symbol → List Symbol → List SeenExpression → Type 0
 SpellsAngle e ts rest found = SpellsSum e ts rest × (found ≡ seen (length ts) (depth e) ∷ [])
 
-abbrev pub SpellsName : List ℕ → List Symbol → List Symbol → List Seen → Type 0
+abbrev pub SpellsName : List ℕ → List Symbol → List Symbol → List SeenExpression → Type 0
 SpellsName n ts rest found = (ts ≡ name n ∷ rest) × (found ≡ [])
 
 abbrev pub whole_symbol : ℕ → Symbol
@@ -68,12 +68,12 @@ index_symbols None rest = rest
 index_symbols (Some n) rest = mark OpenBracket ∷ whole_symbol n ∷ mark CloseBracket ∷ rest
 
 -- in a gate's body arguments are plain names
-abbrev pub IsAllowed : Bool → Option ℕ → Type 0
-IsAllowed true index = index ≡ None
-IsAllowed false index = Unit {0}
+abbrev pub IsAllowedIndex : Bool → Option ℕ → Type 0
+IsAllowedIndex true index = index ≡ None
+IsAllowedIndex false index = Unit {0}
 
-abbrev pub SpellsArg : Bool → Arg → List Symbol → List Symbol → List Seen → Type 0
-SpellsArg plain a ts rest found = (ts ≡ name a.name ∷ index_symbols a.index rest) × IsAllowed plain a.index × (found ≡ [])
+abbrev pub SpellsArg : Bool → Arg → List Symbol → List Symbol → List SeenExpression → Type 0
+SpellsArg plain a ts rest found = (ts ≡ name a.name ∷ index_symbols a.index rest) × IsAllowedIndex plain a.index × (found ≡ [])
 
 abbrev pub SpellsArgs : Bool → List Arg → List Symbol → List Symbol → Type 0
 SpellsArgs plain args ts rest = SpellsList (SpellsArg plain) args ts (mark Semicolon ∷ rest) []
@@ -86,7 +86,7 @@ pub data Form : Type 0 where
   empty : Form
   listed : Form
 
-abbrev pub SpellsForm : Form → Application → List Symbol → List Symbol → List Seen → Type 0
+abbrev pub SpellsForm : Form → Application → List Symbol → List Symbol → List SeenExpression → Type 0
 SpellsForm by_u a ts rest found = (a.gate ≡ codes "U")
     × (mid : List Symbol) × (ts ≡ word U ∷ mark Open ∷ mid) × SpellsList SpellsAngle a.angles mid (mark Close ∷ rest) found
 SpellsForm by_cx a ts rest found = (a.gate ≡ codes "CX") × (a.angles ≡ []) × (ts ≡ word Cx ∷ rest) × (found ≡ [])
@@ -95,15 +95,15 @@ SpellsForm empty a ts rest found = (a.angles ≡ []) × (ts ≡ name a.gate ∷ 
 SpellsForm listed a ts rest found =
     (mid : List Symbol) × (ts ≡ name a.gate ∷ mark Open ∷ mid) × SpellsList SpellsAngle a.angles mid (mark Close ∷ rest) found
 
-abbrev pub SpellsApplication : Bool → Application → List Symbol → List Symbol → List Seen → Type 0
+abbrev pub SpellsApplication : Bool → Application → List Symbol → List Symbol → List SeenExpression → Type 0
 SpellsApplication plain a ts rest found =
     (form : Form) × (mid : List Symbol) × SpellsForm form a ts mid found × SpellsArgs plain a.args mid rest
 
-abbrev pub SpellsBarrier : Bool → List Arg → List Symbol → List Symbol → List Seen → Type 0
+abbrev pub SpellsBarrier : Bool → List Arg → List Symbol → List Symbol → List SeenExpression → Type 0
 SpellsBarrier plain args ts rest found =
     (mid : List Symbol) × (ts ≡ word Barrier ∷ mid) × SpellsArgs plain args mid rest × (found ≡ [])
 
-abbrev pub SpellsAction : Action → List Symbol → List Symbol → List Seen → Type 0
+abbrev pub SpellsAction : Action → List Symbol → List Symbol → List SeenExpression → Type 0
 SpellsAction (apply a) ts rest found = SpellsApplication false a ts rest found
 SpellsAction (measure qubit bit) ts rest found =
     (first : List Symbol) × (second : List Symbol) × (ts ≡ word Measure ∷ first)
@@ -113,7 +113,7 @@ SpellsAction (reset arg) ts rest found =
 SpellsAction (barrier args) ts rest found = SpellsBarrier false args ts rest found
 
 -- ---- gates
-abbrev pub SpellsItem : Action → List Symbol → List Symbol → List Seen → Type 0
+abbrev pub SpellsItem : Action → List Symbol → List Symbol → List SeenExpression → Type 0
 SpellsItem (apply a) ts rest found = SpellsApplication true a ts rest found
 SpellsItem (barrier args) ts rest found = SpellsBarrier true args ts rest found
 SpellsItem _ ts rest found = ⊥
@@ -139,7 +139,7 @@ abbrev pub IsConditional : Action → Type 0
 IsConditional (barrier args) = ⊥
 IsConditional _ = Unit {0}
 
-abbrev pub SpellsStatement : Statement → List Symbol → List Symbol → List Seen → Type 0
+abbrev pub SpellsStatement : Statement → List Symbol → List Symbol → List SeenExpression → Type 0
 SpellsStatement (include file) ts rest found = (ts ≡ word Include ∷ quoted file ∷ mark Semicolon ∷ rest) × (found ≡ [])
 SpellsStatement (register quantum bytes size) ts rest found =
     (ts ≡ word (if quantum then Qreg else Creg) ∷ name bytes ∷ mark OpenBracket ∷ whole_symbol size ∷ mark CloseBracket ∷ mark Semicolon ∷ rest)
@@ -154,6 +154,6 @@ SpellsStatement (conditional bytes value inner) ts rest found = (mid : List Symb
 SpellsStatement (act x) ts rest found = SpellsAction x ts rest found
 
 -- all symbols of a text
-abbrev pub SpellsTree : Tree → List Symbol → List Seen → Type 0
+abbrev pub SpellsTree : Tree → List Symbol → List SeenExpression → Type 0
 SpellsTree t ts found = (mid : List Symbol) × (ts ≡ word OpenQasm ∷ real t.version ∷ mark Semicolon ∷ mid)
     × SpellsEach SpellsStatement t.list mid [] found

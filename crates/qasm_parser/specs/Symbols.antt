@@ -12,11 +12,11 @@
 --   value_of       the value of a number token
 --   first_value    the value of the first of these symbols
 --   symbols        those of a text's tokens, in order
---   first_place    where the first of some tokens stands; the text's length where there is none
---   place_of       where the token stands that has so many tokens from itself to the end; the text's length where there is none
+--   first_token_place  where the first of some tokens stands; the text's length where there is none
+--   token_place    where the token stands that has so many tokens from itself to the end; the text's length where there is none
 use Rattle.std.specs.Prelude.{ℕ, ◌-◌, List, [], ◌∷◌, Option, Some, None, if◌then◌else◌, codes, drop, length, map, slice_range}
 use Rattle.std.specs.Str.{bytes_eq}
-use Rattle.angle_fraction.specs.Fraction.{Fraction, lowest, nought}
+use Rattle.angle_fraction.specs.Fraction.{Fraction, lowest, zero_fraction}
 use Rattle.qasm_lexer.specs.Numbers.{decimal}
 use Rattle.qasm_lexer.specs.Tokens.{bytes_of}
 use Rattle.qasm_lexer.specs.declared.Token.{Token}
@@ -130,13 +130,13 @@ symbols text tokens = map (symbol_of text) tokens
 
 -- the value of the first symbol, where it is a number
 abbrev pub first_value : List Symbol → Fraction
-first_value [] = nought
-first_value (t ∷ ts) = elim t [ whole value ↦ value | real value ↦ value | _ ↦ nought ]
+first_value [] = zero_fraction
+first_value (t ∷ ts) = elim t [ whole value ↦ value | real value ↦ value | _ ↦ zero_fraction ]
 
 -- ---- places
-abbrev pub first_place : ℕ → List Token → ℕ
-first_place size [] = size
-first_place size (token ∷ tokens) = token.from
+abbrev pub first_token_place : ℕ → List Token → ℕ
+first_token_place size [] = size
+first_token_place size (token ∷ tokens) = token.from
 
-unfoldable pub place_of : List ℕ → List Token → ℕ → ℕ
-place_of text tokens left = first_place (length text) (drop (length tokens - left) tokens)
+unfoldable pub token_place : List ℕ → List Token → ℕ → ℕ
+token_place text tokens left = first_token_place (length text) (drop (length tokens - left) tokens)

@@ -11,7 +11,7 @@
 --   Statement, Tree   a statement; a program
 --   include, register, gate, opaque, conditional, act   a library that is included; a register of qubits or of bits; a gate with
 --                  its body; a gate without one; an action behind `if`; an action
---   expression, application, action, actions, statement, program   what a tree of the code spells; in a body or behind `if`
+--   expression, application, action, actions, statement, program_tree  what a tree of the code spells; in a body or behind `if`
 --                  a statement that can't stand there is an empty barrier, which no text spells
 --   definition     a gate's names and its body as one value
 use Rattle.std.specs.Prelude.{ℕ, ◌+◌, max, List, [], ◌∷◌, Bool, map}
@@ -112,5 +112,5 @@ statement (Reset arg) = act (reset arg)
 statement (If' name value p inner) = conditional name value (action inner)
 statement (Barrier args) = act (barrier args.items)
 
-abbrev pub program : Program → Tree
-program p = record { version = p.version; list = map statement p.list.items }
+abbrev pub program_tree : Program → Tree
+program_tree p = record { version = p.version; list = map statement p.list.items }

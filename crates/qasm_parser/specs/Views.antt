@@ -1,7 +1,7 @@
 -- Working form. What values of the code stand for.
 --   symbol     a symbol, its bytes apart from where they lie, a number with this value
 --   begins_reserved, may_be_reserved   a reserved word or a function begins with these two bytes; a word is `U` or begins so
---   IsFirst s ss   s is the first of these symbols, or none where there is none
+--   IsFirstSymbol s ss  s is the first of these symbols, or none where there is none
 use Rattle.std.specs.Prelude.{◌≡◌, ℕ, ◌==◌, ◌||◌, Bool, false, List, [], ◌∷◌, Option, MatchOption, if◌then◌else◌, drop}
 use Rattle.qasm_parser.specs.declared.symbols.Symbol.{Symbol}
 use Rattle.qasm_parser.specs.declared.symbols.Symbol.TheVariants.{Word, Function, Name, Whole, Real, Quoted, Mark, Sign, Other}
@@ -39,5 +39,5 @@ may_be_reserved [] = false
 may_be_reserved (b ∷ []) = b == 85
 may_be_reserved (b ∷ c ∷ w) = begins_reserved b c
 
-abbrev pub IsFirst : Option Symbol → List spec.Symbol → Type 0
-IsFirst s ss = MatchOption s (ss ≡ []) (λ it. ss ≡ symbol it (spec.first_value ss) ∷ drop 1 ss)
+abbrev pub IsFirstSymbol : Option Symbol → List spec.Symbol → Type 0
+IsFirstSymbol s ss = MatchOption s (ss ≡ []) (λ it. ss ≡ symbol it (spec.first_value ss) ∷ drop 1 ss)

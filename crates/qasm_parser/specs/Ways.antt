@@ -1,5 +1,5 @@
 -- Working form. How far symbols go on with a form of the grammar, apart from what they mean.
---   Outcome, past, stuck   the form is read, and this is left; or so many symbols are left from the first that doesn't fit
+--   WayOutcome, past, stuck  the form is read, and this is left; or so many symbols are left from the first that doesn't fit
 --   onward           what comes of a second form behind a first
 --   Kind             a kind of symbol: this mark, this reserved word, a name, a number from 0 on, a real, a text, or the end
 --   this_mark, this_word, a_name, a_whole, a_real, a_text, the_end   these, in this order
@@ -15,7 +15,7 @@
 --                    a form behind each symbol of a kind, as long as one comes; a form again and again until a symbol of a kind
 --                    comes; an expression
 --   nothing, one, sequel, choice, many, until, sum   these, in this order
---   many_turns, until_turns   at most so many turns
+--   many_rounds, until_rounds  at most so many rounds
 --   walk             what comes of a form
 use Rattle.std.specs.Prelude.{ℕ, zero, suc, Bool, true, false, List, [], ◌∷◌, Option, Some, None, drop, length, if◌then◌else◌}
 use Rattle.angle_fraction.specs.declared.signs.Binary.TheVariants.{Sub}
@@ -23,13 +23,13 @@ use Rattle.qasm_parser.specs.declared.symbols.Keyword.{Keyword}
 use Rattle.qasm_parser.specs.declared.symbols.Mark.{Mark}
 use Rattle.qasm_parser.specs.Symbols.{Symbol, name, whole, real, quoted}
 use Rattle.qasm_parser.specs.Machine.{atom, begins, ends, calls, joins, none, role}
-use Rattle.qasm_parser.specs.Reading.{begins_with, begins_word, whole_number}
+use Rattle.qasm_parser.specs.Reading.{begins_with_mark, begins_word, whole_number}
 
-pub data Outcome : Type 0 where
-  past : (rest : List Symbol) → Outcome
-  stuck : (left : ℕ) → Outcome
+pub data WayOutcome : Type 0 where
+  past : (rest : List Symbol) → WayOutcome
+  stuck : (left : ℕ) → WayOutcome
 
-abbrev pub onward : (List Symbol → Outcome) → Outcome → Outcome
+abbrev pub onward : (List Symbol → WayOutcome) → WayOutcome → WayOutcome
 onward R (past rest) = R rest
 onward R (stuck left) = stuck left
 
@@ -68,7 +68,7 @@ is_end [] = true
 is_end (t ∷ ts) = false
 
 abbrev pub comes : Kind → List Symbol → Bool
-comes (this_mark m) ts = begins_with m ts
+comes (this_mark m) ts = begins_with_mark m ts
 comes (this_word w) ts = begins_word w ts
 comes a_name ts = begins_name ts
 comes a_whole ts = begins_whole ts
@@ -82,11 +82,11 @@ pub data Stand : Type 0 where
   calling : Stand
   holding : Stand
 
-abbrev pub finish : ℕ → List Symbol → Outcome
+abbrev pub finish : ℕ → List Symbol → WayOutcome
 finish zero ts = past ts
 finish (suc m) ts = stuck (length ts)
 
-abbrev pub way : ℕ → Stand → List Symbol → Outcome
+abbrev pub way : ℕ → Stand → List Symbol → WayOutcome
 way n lacking [] = stuck 0
 way n lacking (t ∷ ts) = elim (role t) [
   | atom e ↦ way n holding ts
@@ -105,7 +105,7 @@ way n holding (t ∷ ts) = elim (role t) [
   | _ ↦ finish n (t ∷ ts)
 ]
 
-abbrev pub shut : ℕ → List Symbol → Outcome
+abbrev pub shut : ℕ → List Symbol → WayOutcome
 shut zero ts = past ts
 shut (suc m) ts = way m holding (drop 1 ts)
 
@@ -119,19 +119,19 @@ pub data Shape : Type 0 where
   until : (k : Kind) (each : Shape) → Shape
   sum : Shape
 
-abbrev pub many_turns : Kind → (List Symbol → Outcome) → ℕ → List Symbol → Outcome
-many_turns k R zero ts = stuck (length ts)
-many_turns k R (suc n) ts = if comes k ts then onward (many_turns k R n) (R (drop 1 ts)) else past ts
+abbrev pub many_rounds : Kind → (List Symbol → WayOutcome) → ℕ → List Symbol → WayOutcome
+many_rounds k R zero ts = stuck (length ts)
+many_rounds k R (suc n) ts = if comes k ts then onward (many_rounds k R n) (R (drop 1 ts)) else past ts
 
-abbrev pub until_turns : Kind → (List Symbol → Outcome) → ℕ → List Symbol → Outcome
-until_turns k R zero ts = stuck (length ts)
-until_turns k R (suc n) ts = if comes k ts then past ts else onward (until_turns k R n) (R ts)
+abbrev pub until_rounds : Kind → (List Symbol → WayOutcome) → ℕ → List Symbol → WayOutcome
+until_rounds k R zero ts = stuck (length ts)
+until_rounds k R (suc n) ts = if comes k ts then past ts else onward (until_rounds k R n) (R ts)
 
-abbrev pub walk : Shape → List Symbol → Outcome
+abbrev pub walk : Shape → List Symbol → WayOutcome
 walk nothing ts = past ts
 walk (one k) ts = if comes k ts then past (drop 1 ts) else stuck (length ts)
 walk (sequel first second) ts = onward (walk second) (walk first ts)
 walk (choice k chosen others) ts = if comes k ts then walk chosen (drop 1 ts) else walk others ts
-walk (many k each) ts = many_turns k (walk each) (suc (length ts)) ts
-walk (until k each) ts = until_turns k (walk each) (suc (length ts)) ts
+walk (many k each) ts = many_rounds k (walk each) (suc (length ts)) ts
+walk (until k each) ts = until_rounds k (walk each) (suc (length ts)) ts
 walk sum ts = way 0 lacking ts

@@ -3,7 +3,7 @@
 ghost use Rattle.std.specs.Prelude.{◌≡◌, ◌<◌, ◌^◌, All, drop, length};
 ghost use Rattle.qasm_parser.specs.Symbols.{first_value, symbols};
 ghost use Rattle.qasm_lexer.specs.Tokens.{IsTokenOf};
-ghost use Rattle.qasm_parser.specs.Views.{IsFirst};
+ghost use Rattle.qasm_parser.specs.Views.{IsFirstSymbol};
 
 use crate::symbols::{Symbol, number_of, symbol_of};
 use angle_fraction::Frac;
@@ -16,7 +16,7 @@ use std::marker::Model;
 fn first_symbol<'a>(text: &'a [u8], tokens: &'a [Token]) -> Option<Symbol<'a>>
     requires short { length text.now < 2 ^ 32 }
     requires tokens { All (IsTokenOf text.now) tokens.now }
-    ensures { IsFirst result (symbols text.now tokens.now) }
+    ensures { IsFirstSymbol result (symbols text.now tokens.now) }
 {
     match tokens.first() {
         Some(token) => Some(symbol_of(text, token)),
@@ -36,14 +36,14 @@ impl<'a> Model for Cursor<'a> {
     ghost use Rattle.std.specs.Prelude.{◌<◌, ◌^◌, All, List, length};
     ghost use Rattle.qasm_lexer.specs.Tokens.{IsTokenOf};
     ghost use Rattle.qasm_parser.specs.Symbols.{Symbol, symbols};
-    ghost use Rattle.qasm_parser.specs.Views.{IsFirst};
+    ghost use Rattle.qasm_parser.specs.Views.{IsFirstSymbol};
 
     ghost Value = { List Symbol };
 
     ghost view = { λ c. symbols c.text.now c.tokens.now };
 
     ghost invariant = { λ c. (length c.text.now < 2 ^ 32) × All (IsTokenOf c.text.now) c.tokens.now
-        × IsFirst c.next (symbols c.text.now c.tokens.now) };
+        × IsFirstSymbol c.next (symbols c.text.now c.tokens.now) };
 }
 
 impl<'a> Cursor<'a> {
@@ -70,7 +70,7 @@ impl<'a> Cursor<'a> {
     /// The next symbol.
     #[inline]
     pub fn peek(&self) -> Option<Symbol<'a>>
-        ensures first { IsFirst result self.now }
+        ensures first { IsFirstSymbol result self.now }
     {
         self.next
     }

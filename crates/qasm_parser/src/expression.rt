@@ -1,10 +1,10 @@
 //! Expressions, read from left to right without recursion.
 
 ghost use Rattle.std.specs.Prelude.{◌≡◌, ◌<◌, ◌≤◌, ◌+◌, ◌*◌, ℕ, List, false, Some, IfOk, IfErr, OnOk, ◌∷◌, length};
-ghost use Rattle.qasm_parser.specs.Machine.{behind, closes, finished, front, open_in, parenthesis, reduce as reduced_by, run, sum_of};
-ghost use Rattle.qasm_parser.specs.Modes.{go, steps, way_go};
+ghost use Rattle.qasm_parser.specs.Machine.{behind, closes, finished, front, open_in, parenthesis, reduce as reduced_by, run, read_sum};
+ghost use Rattle.qasm_parser.specs.Modes.{go, steps_left, way_go};
 ghost use Rattle.qasm_parser.specs.Frames.{stack};
-ghost use Rattle.qasm_parser.specs.Parts.{part_of};
+ghost use Rattle.qasm_parser.specs.Parts.{part_expression};
 ghost use Rattle.qasm_parser.specs.Tree.{most_depth, expression};
 ghost use Rattle.qasm_parser.specs.Misread.{IsMisread};
 ghost use Rattle.qasm_parser.specs.Ways.{calling, finish as finish_way, holding, lacking, past, shut, stuck, sum as sum_shape, walk, way};
@@ -103,10 +103,10 @@ fn close(
 ) -> Result<Mode, ParseStop>
     requires some { 0 < length cursor.old }
     requires waits { closes 1 (stack frames.old) ≡ false }
-    ensures ok { IfOk result (λ m. parenthesis most_depth (stack frames.old) (part_of part) cursor.old ≡ go (stack frames.new) m cursor.new) }
+    ensures ok { IfOk result (λ m. parenthesis most_depth (stack frames.old) (part_expression part) cursor.old ≡ go (stack frames.new) m cursor.new) }
     ensures walked { IfOk result (λ m. shut (open_in (stack frames.old)) cursor.old ≡ way_go (open_in (stack frames.new)) m cursor.new) }
     ensures err { IfErr result (IsMisread (shut (open_in (stack frames.old)) cursor.old)) }
-    ensures shorter { IfOk result (λ m. steps m (length cursor.new) < 2 * length cursor.old + 1) }
+    ensures shorter { IfOk result (λ m. steps_left m (length cursor.new) < 2 * length cursor.old + 1) }
 {
     let left = cursor.left();
     let Some((frame, _)) = frames.pop() else {
@@ -133,10 +133,10 @@ fn finish(
     part: Option<Part>,
     left: usize,
 ) -> Result<Mode, ParseStop>
-    ensures ok { IfOk result (λ m. (ts : List SpecSymbol) → finished (reduced_by most_depth 1 (stack frames.old) (part_of part)) ts ≡ go (stack frames.new) m ts) }
+    ensures ok { IfOk result (λ m. (ts : List SpecSymbol) → finished (reduced_by most_depth 1 (stack frames.old) (part_expression part)) ts ≡ go (stack frames.new) m ts) }
     ensures walked { IfOk result (λ m. (ts : List SpecSymbol) → finish_way (open_in (stack frames.old)) ts ≡ way_go (open_in (stack frames.new)) m ts) }
     ensures err { IfErr result (λ e. (ts : List SpecSymbol) → left ≡ length ts → IsMisread (finish_way (open_in (stack frames.old)) ts) e) }
-    ensures shorter { IfOk result (λ m. steps m left ≡ 2 * left) }
+    ensures shorter { IfOk result (λ m. steps_left m left ≡ 2 * left) }
 {
     let part = reduce(alloc, frames, part, None)?;
     if frames.is_empty() {
@@ -154,10 +154,10 @@ fn after(
     frames: &mut Frames,
     part: Option<Part>,
 ) -> Result<Mode, ParseStop>
-    ensures ok { IfOk result (λ m. run most_depth (stack frames.old) (behind (part_of part)) cursor.old ≡ go (stack frames.new) m cursor.new) }
+    ensures ok { IfOk result (λ m. run most_depth (stack frames.old) (behind (part_expression part)) cursor.old ≡ go (stack frames.new) m cursor.new) }
     ensures walked { IfOk result (λ m. way (open_in (stack frames.old)) holding cursor.old ≡ way_go (open_in (stack frames.new)) m cursor.new) }
     ensures err { IfErr result (IsMisread (way (open_in (stack frames.old)) holding cursor.old)) }
-    ensures shorter { IfOk result (λ m. steps m (length cursor.new) < 2 * length cursor.old + 1) }
+    ensures shorter { IfOk result (λ m. steps_left m (length cursor.new) < 2 * length cursor.old + 1) }
 {
     let left = cursor.left();
     match cursor.peek() {
@@ -177,7 +177,7 @@ fn after(
 
 /// The expression that comes next, as far as it goes; none where it is deeper than 64.
 pub fn sum(alloc: Global, cursor: &mut Cursor<'_>) -> Result<Option<Part>, ParseStop>
-    ensures ok { IfOk result (λ p. sum_of most_depth cursor.old ≡ Some (part_of p, cursor.new)) }
+    ensures ok { IfOk result (λ p. read_sum most_depth cursor.old ≡ Some (part_expression p, cursor.new)) }
     ensures walked { OnOk result (walk sum_shape cursor.old ≡ past cursor.new) }
     ensures err { IfErr result (IsMisread (walk sum_shape cursor.old)) }
     ensures rest { OnOk result (length cursor.new ≤ length cursor.old) }

@@ -3,7 +3,7 @@
 ghost use Rattle.std.specs.Prelude.{◌≡◌, false, ◌↔◌, ◌++◌, ◌∷◌, [], IsTrue, drop, reverse, IfErr, IfOk, MatchOption, OnOk, Option, nat_le};
 ghost use Rattle.qasm_parser.specs.Tree.{Expression as SpecExpression, most_depth};
 ghost use Rattle.qasm_parser.specs.Machine.{before, called, closed, closes, minus, next_binding, open_in, opened, reduce, reduced, tightness};
-ghost use Rattle.qasm_parser.specs.Parts.{part_of};
+ghost use Rattle.qasm_parser.specs.Parts.{part_expression};
 ghost use Rattle.qasm_parser.specs.Frames.{first_left, frame_with, stack};
 ghost use Rattle.qasm_parser.specs.declared.stop.ParseStop.TheVariants.{NoMemory};
 
@@ -50,7 +50,7 @@ fn takes(frame: Frame, sign: Option<Binary>) -> bool
 /// The left part on top.
 #[tactic(auto, using(crate::proofs::FrameLaws::stacks))]
 fn pop_left(lefts: &mut Vec<Option<Part>>) -> Option<Part>
-    ensures value { part_of result ≡ first_left (reverse lefts.old.items) }
+    ensures value { part_expression result ≡ first_left (reverse lefts.old.items) }
     ensures rest { reverse lefts.new.items ≡ drop 1 (reverse lefts.old.items) }
 {
     match lefts.pop() {
@@ -111,7 +111,7 @@ impl Frames {
     /// Puts a left part and its sign on top.
     #[tactic(auto, using(crate::proofs::FrameLaws::stacks))]
     pub fn push_left(&mut self, sign: Binary, left: Option<Part>) -> Result<(), ParseStop>
-        ensures ok { OnOk result (stack self.new ≡ before sign (part_of left) ∷ stack self.old) }
+        ensures ok { OnOk result (stack self.new ≡ before sign (part_expression left) ∷ stack self.old) }
         ensures err { IfErr result (λ e. e ≡ NoMemory) }
     {
         self.lefts.push(left)?;
@@ -122,7 +122,7 @@ impl Frames {
     /// Takes the frame on top, with its left part where it has one.
     #[tactic(auto, using(crate::proofs::FrameLaws::stacks))]
     pub fn pop(&mut self) -> Option<(Frame, Option<Part>)>
-        ensures found { MatchOption result (stack self.old ≡ []) (λ f. stack self.old ≡ frame_with f.0 (part_of f.1) ∷ stack self.new) }
+        ensures found { MatchOption result (stack self.old ≡ []) (λ f. stack self.old ≡ frame_with f.0 (part_expression f.1) ∷ stack self.new) }
     {
         let frame = self.kinds.pop()?;
         let left = match frame {
@@ -159,7 +159,7 @@ fn closed(
     left: Option<Part>,
     part: Option<Part>,
 ) -> Result<Option<Part>, AllocError>
-    ensures { IfOk result (λ p. part_of p ≡ closed most_depth (frame_with frame (part_of left)) (part_of part)) }
+    ensures { IfOk result (λ p. part_expression p ≡ closed most_depth (frame_with frame (part_expression left)) (part_expression part)) }
 {
     match frame {
         Frame::Minus => negated(alloc, part),
@@ -177,7 +177,7 @@ pub fn reduce(
     part: Option<Part>,
     sign: Option<Binary>,
 ) -> Result<Option<Part>, AllocError>
-    ensures ok { IfOk result (λ p. reduce most_depth (next_binding sign) (stack frames.old) (part_of part) ≡ reduced (stack frames.new) (part_of p)) }
+    ensures ok { IfOk result (λ p. reduce most_depth (next_binding sign) (stack frames.old) (part_expression part) ≡ reduced (stack frames.new) (part_expression p)) }
     ensures open_still { OnOk result (open_in (stack frames.new) ≡ open_in (stack frames.old)) }
     ensures waits { OnOk result (closes (next_binding sign) (stack frames.new) ≡ false) }
 {

@@ -2,8 +2,8 @@
 
 ghost use Rattle.std.specs.Prelude.{◌≡◌, IfOk};
 ghost use Rattle.qasm_parser.specs.Tree.{most_depth};
-ghost use Rattle.qasm_parser.specs.Machine.{called, closed, joined, minus, opened};
-ghost use Rattle.qasm_parser.specs.Parts.{part_of};
+ghost use Rattle.qasm_parser.specs.Machine.{called, closed, joined_parts, minus, opened};
+ghost use Rattle.qasm_parser.specs.Parts.{part_expression};
 
 use crate::part::{MOST_DEPTH, Part};
 use crate::tree::{Expr, Sides};
@@ -13,7 +13,7 @@ use std::alloc::{AllocError, Global};
 /// Unary minus.
 #[tactic(auto, unfolding(crate::specs::Machine::capped))]
 pub fn negated(alloc: Global, part: Option<Part>) -> Result<Option<Part>, AllocError>
-    ensures ok { IfOk result (λ p. part_of p ≡ closed most_depth minus (part_of part)) }
+    ensures ok { IfOk result (λ p. part_expression p ≡ closed most_depth minus (part_expression part)) }
 {
     let Some(part) = part else {
         return Ok(None);
@@ -29,7 +29,7 @@ pub fn negated(alloc: Global, part: Option<Part>) -> Result<Option<Part>, AllocE
 /// A pair of parentheses.
 #[tactic(auto, unfolding(crate::specs::Machine::capped))]
 pub fn parenthesised(alloc: Global, part: Option<Part>) -> Result<Option<Part>, AllocError>
-    ensures ok { IfOk result (λ p. part_of p ≡ closed most_depth opened (part_of part)) }
+    ensures ok { IfOk result (λ p. part_expression p ≡ closed most_depth opened (part_expression part)) }
 {
     let Some(part) = part else {
         return Ok(None);
@@ -49,7 +49,7 @@ pub fn applied(
     function: Function,
     part: Option<Part>,
 ) -> Result<Option<Part>, AllocError>
-    ensures ok { IfOk result (λ p. part_of p ≡ closed most_depth (called function) (part_of part)) }
+    ensures ok { IfOk result (λ p. part_expression p ≡ closed most_depth (called function) (part_expression part)) }
 {
     let Some(part) = part else {
         return Ok(None);
@@ -73,7 +73,7 @@ pub fn joined(
     left: Option<Part>,
     right: Option<Part>,
 ) -> Result<Option<Part>, AllocError>
-    ensures ok { IfOk result (λ p. part_of p ≡ joined most_depth sign (part_of left) (part_of right)) }
+    ensures ok { IfOk result (λ p. part_expression p ≡ joined_parts most_depth sign (part_expression left) (part_expression right)) }
 {
     let Some(left) = left else {
         return Ok(None);

@@ -5,7 +5,7 @@ ghost use Rattle.qasm_lexer.specs.Names.{IsName};
 ghost use Rattle.qasm_lexer.specs.Tokens.{IsTokenOf};
 ghost use Rattle.qasm_lexer.specs.declared.Token.{Token as LexToken};
 ghost use Rattle.qasm_parser.specs.Tree.{Tree};
-ghost use Rattle.qasm_parser.specs.Spelling.{Seen};
+ghost use Rattle.qasm_parser.specs.Spelling.{SeenExpression};
 ghost use Rattle.qasm_parser.specs.DeclaredNames.{HasNames};
 ghost use Rattle.qasm_parser.specs.Parsing.{IsParseFault, IsProgram, Spells, first_deep_of};
 ghost use Rattle.qasm_parser.specs.declared.ParseFault.{ParseFault as Fault};
@@ -13,7 +13,7 @@ ghost use Rattle.qasm_parser.specs.declared.ParseFault.TheVariants.{NoMemory};
 
 /// A text with its tokens spells at most one tree, and its first expression that is too deep begins at one place.
 pub fn spelt_once()
-    ensures once { (text : List ℕ) (tokens : List LexToken) (a b : Tree) (f g : List Seen) → Spells text tokens a f → Spells text tokens b g
+    ensures once { (text : List ℕ) (tokens : List LexToken) (a b : Tree) (f g : List SeenExpression) → Spells text tokens a f → Spells text tokens b g
         → (a ≡ b) × (first_deep_of f ≡ first_deep_of g) }
 {}
 
@@ -35,11 +35,11 @@ pub fn refused_once()
 
 /// A tree has no more statements than its text has tokens.
 pub fn few_statements()
-    ensures count { (text : List ℕ) (tokens : List LexToken) (t : Tree) (found : List Seen) → Spells text tokens t found → length t.list ≤ length tokens }
+    ensures count { (text : List ℕ) (tokens : List LexToken) (t : Tree) (found : List SeenExpression) → Spells text tokens t found → length t.list ≤ length tokens }
 {}
 
 /// Each name that a text's tree declares is a name of the language.
 pub fn declares_names()
-    ensures names { (text : List ℕ) (tokens : List LexToken) (t : Tree) (found : List Seen) → All (IsTokenOf text) tokens → Spells text tokens t found
+    ensures names { (text : List ℕ) (tokens : List LexToken) (t : Tree) (found : List SeenExpression) → All (IsTokenOf text) tokens → Spells text tokens t found
         → All (HasNames IsName) t.list }
 {}

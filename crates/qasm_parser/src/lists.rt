@@ -5,7 +5,7 @@ ghost use Rattle.qasm_parser.specs.Misread.{IsMisread};
 ghost use Rattle.qasm_parser.specs.Ways.{a_name, a_whole, one, this_mark, past, walk};
 ghost use Rattle.qasm_parser.specs.Shapes.{arg_shape, args_shape, bracketed_shape, index_shape, list_shape};
 ghost use Rattle.qasm_parser.specs.Symbols.{Symbol as SpecSymbol};
-ghost use Rattle.qasm_parser.specs.Reading.{args_of, arg_of, begins_with, begins_word, bracketed_of, first_word, index_of, list_of, mark_code, name_of, read, skip, whole_number, whole_of, word_code};
+ghost use Rattle.qasm_parser.specs.Reading.{args_of, arg_of, begins_with_mark, begins_word, bracketed_of, first_word, optional_index_of, list_of, mark_code, name_of, read, skip, whole_number, whole_of, word_code};
 
 use crate::cursor::Cursor;
 use crate::name::Name;
@@ -38,7 +38,7 @@ fn code(mark: Mark) -> u8
 
 /// Whether this sign comes next.
 pub fn is_next(cursor: &Cursor<'_>, mark: Mark) -> bool
-    ensures value { result ≡ begins_with mark cursor.now }
+    ensures value { result ≡ begins_with_mark mark cursor.now }
 {
     let Some(symbol) = cursor.peek() else {
         return false;
@@ -54,7 +54,7 @@ pub fn is_next(cursor: &Cursor<'_>, mark: Mark) -> bool
 /// Goes past this sign, where it comes next.
 #[tactic(auto, using(crate::proofs::CodeLaws::signs))]
 pub fn take(cursor: &mut Cursor<'_>, mark: Mark) -> bool
-    ensures test { result ≡ begins_with mark cursor.old }
+    ensures test { result ≡ begins_with_mark mark cursor.old }
     ensures taken { result ≡ true → skip mark cursor.old ≡ Some cursor.new }
     ensures advanced { result ≡ true → cursor.new ≡ drop 1 cursor.old }
     ensures shorter { result ≡ true → length cursor.new < length cursor.old }
@@ -210,7 +210,7 @@ pub fn bracketed(cursor: &mut Cursor<'_>) -> Result<u64, ParseStop>
 
 /// The index in brackets, where one is there; none in a gate's body.
 fn index(cursor: &mut Cursor<'_>, plain: bool) -> Result<Option<u64>, ParseStop>
-    ensures ok { IfOk result (λ i. index_of plain cursor.old ≡ Some (read i None cursor.new)) }
+    ensures ok { IfOk result (λ i. optional_index_of plain cursor.old ≡ Some (read i None cursor.new)) }
     ensures walked { OnOk result (walk (index_shape plain) cursor.old ≡ past cursor.new) }
     ensures err { IfErr result (IsMisread (walk (index_shape plain) cursor.old)) }
     ensures rest { OnOk result (length cursor.new ≤ length cursor.old) }

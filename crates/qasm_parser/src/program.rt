@@ -4,8 +4,8 @@ ghost use Rattle.std.specs.Prelude.{◌≡◌, ◌≤◌, ◌<◌, ◌↔◌, �
 ghost use Rattle.qasm_parser.specs.Misread.{IsMisread};
 ghost use Rattle.qasm_parser.specs.Ways.{the_end, until, past, walk};
 ghost use Rattle.qasm_parser.specs.Shapes.{header_shape, statement_shape, tree_shape, version_shape};
-ghost use Rattle.qasm_parser.specs.Tree.{most_depth, program, statement};
-ghost use Rattle.qasm_parser.specs.Symbols.{place_of};
+ghost use Rattle.qasm_parser.specs.Tree.{most_depth, program_tree, statement};
+ghost use Rattle.qasm_parser.specs.Symbols.{token_place};
 ghost use Rattle.qasm_lexer.specs.Tokens.{IsTokenOf};
 ghost use Rattle.qasm_parser.specs.Parsing.{IsParseFault, IsProgram, real_place, two};
 ghost use Rattle.qasm_parser.specs.Reading.{all, header_of, more_statements, read, tree_of, version_of};
@@ -80,7 +80,7 @@ fn statements(
 /// A program, and where the first expression that is too deep begins.
 #[tactic(auto, unfolding(crate::specs::Reading::tree_of, crate::specs::Shapes::tree_shape))]
 fn tree(alloc: Global, cursor: &mut Cursor<'_>) -> Result<(Program, Option<usize>), ParseStop>
-    ensures ok { IfOk result (λ r. tree_of most_depth cursor.old ≡ Some (read (program r.0) r.1 cursor.new)) }
+    ensures ok { IfOk result (λ r. tree_of most_depth cursor.old ≡ Some (read (program_tree r.0) r.1 cursor.new)) }
     ensures walked { OnOk result (walk tree_shape cursor.old ≡ past cursor.new) }
     ensures err { IfErr result (IsMisread (walk tree_shape cursor.old)) }
 {
@@ -91,11 +91,11 @@ fn tree(alloc: Global, cursor: &mut Cursor<'_>) -> Result<(Program, Option<usize
 }
 
 /// Where the token stands that has so many tokens from itself to the end.
-#[tactic(auto, unfolding(crate::specs::Symbols::place_of), using(crate::proofs::PlaceLaws::places))]
+#[tactic(auto, unfolding(crate::specs::Symbols::token_place), using(crate::proofs::PlaceLaws::places))]
 fn place(text: &[u8], tokens: &[Token], left: usize) -> u32
     requires short { length text.now < 2 ^ 32 }
     requires tokens { All (IsTokenOf text.now) tokens.now }
-    ensures value { result ≡ place_of text.now tokens.now left }
+    ensures value { result ≡ token_place text.now tokens.now left }
     ensures bound { result ≤ length text.now }
 {
     match tokens.get(tokens.len().saturating_sub(left)) {
@@ -128,7 +128,7 @@ fn is_two(version: Frac) -> bool
 pub fn parse(alloc: Global, text: &[u8], tokens: &[Token]) -> Result<Program, ParseFault>
     requires short { length text.now < 2 ^ 32 }
     requires tokens { All (IsTokenOf text.now) tokens.now }
-    ensures ok { IfOk result (λ p. IsProgram text.now tokens.now (program p)) }
+    ensures ok { IfOk result (λ p. IsProgram text.now tokens.now (program_tree p)) }
     ensures err { IfErr result (IsParseFault text.now tokens.now) }
 {
     let mut cursor = Cursor::new(text, tokens);

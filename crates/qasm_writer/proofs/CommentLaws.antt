@@ -20,7 +20,7 @@ use Rattle.std.specs.List.{AllByRecursion, flat_map, list_all, prefix_len}
 use Rattle.qasm_lexer.specs.Forms.{Bytes, is_word_byte}
 use Rattle.qasm_lexer.specs.Lexemes.{form_by, lexeme_len}
 use Rattle.qasm_parser.specs.Symbols.{Symbol}
-use Rattle.trace_text.specs.Texts.{IsLine, IsWhole, begun, commented, ended, in_line, lines_of, trace_of, traced}
+use Rattle.trace_text.specs.Texts.{IsLine, EndsEachLine, begun, commented, ended, in_line, lines_of, trace_of, traced}
 use Rattle.qasm_writer.specs.Texts.{index_text}
 use Rattle.qasm_writer.specs.Words.{IsFreeWord}
 use Rattle.qasm_writer.proofs.SymbolLaws.{Gives, Gives-blank, Gives-line, Gives-nil, all_digits, first_of_both, lexeme_len-plain, prefix_len-run, second_of_both}
@@ -30,7 +30,7 @@ abbrev pub AreUnbroken : Type 0
 AreUnbroken = (text : Bytes) → All IsLine (lines_of text)
 
 abbrev pub IsHeld : Type 0
-IsHeld = (text trace : Bytes) → IsWhole text → traced (lines_of text) ≡ [] → trace_of (text ++ commented trace) ≡ ended (lines_of trace)
+IsHeld = (text trace : Bytes) → EndsEachLine text → traced (lines_of text) ≡ [] → trace_of (text ++ commented trace) ≡ ended (lines_of trace)
 
 -- ---- comments are blank
 comment_form : (t : Bytes) → form_by 47 (47 ∷ 47 ∷ t) ≡ 1 + prefix_len in_line (47 ∷ t)

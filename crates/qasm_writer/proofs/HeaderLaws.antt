@@ -16,11 +16,11 @@ use Rattle.qasm_parser.specs.Tree.{Statement, include, register}
 use Rattle.gate_library.specs.Gates.{u, cx}
 use Rattle.gate_library.specs.Library.{library, table_names}
 use Rattle.gate_library.specs.Names.{has_repeat, is_one_of, with}
-use Rattle.qasm_check.specs.Known.{Known, fresh}
+use Rattle.qasm_check.specs.Known.{Known, nothing_known}
 use Rattle.qasm_check.specs.Steps.{after}
 use Rattle.qasm_check.specs.declared.meaning.Meaning.{Meaning}
 use Rattle.qasm_check.specs.declared.register.ClassicalRegister.{ClassicalRegister}
-use Rattle.gate_inline.specs.Registers.{IsFree, names_of}
+use Rattle.gate_inline.specs.Registers.{IsFreeRegister, register_names}
 use Rattle.qasm_writer.specs.Trees.{bits_statement, wires_statements}
 use Rattle.qasm_writer.proofs.MeasureLaws.{AreDeclared, sizes}
 use Rattle.qasm_writer.proofs.RunLaws.{Run, Run-append, Run-nil}
@@ -56,7 +56,7 @@ kept_apart names x y e f = go (cases_Bool (bytes_eq y x))
 
 -- ---- the quantum register
 abbrev pub begun : Known
-begun = after fresh (include (codes "qelib1.inc"))
+begun = after nothing_known (include (codes "qelib1.inc"))
 
 pub record Wired (l : Known) (q : List ℕ) (n : ℕ) : Type 0 where
   pub included : l.included ≡ true
@@ -108,13 +108,13 @@ pub record Registered (k l : Known) (rs : List ClassicalRegister) : Type 0 where
   pub wires : l.wires ≡ k.wires
   pub bits : l.bits ≡ k.bits + sizes rs
   pub measured : l.measured ≡ k.measured
-  pub kept : (name : List ℕ) → is_one_of (names_of rs) name ≡ false → l.declared name ≡ k.declared name
+  pub kept : (name : List ℕ) → is_one_of (register_names rs) name ≡ false → l.declared name ≡ k.declared name
   pub registers : AreDeclared l.declared k.bits rs
 
 with_other : (name asked : List ℕ) (m : Meaning) (others : List ℕ → Option Meaning) → bytes_eq name asked ≡ false → with name m others asked ≡ others asked
 with_other name asked m others e = ap (λ (b : Bool). if b then Some m else others asked) e
 
-pub bits_registered : (k : Known) (rs : List ClassicalRegister) → has_repeat bytes_eq (names_of rs) ≡ false → Registered k (fold after k (map bits_statement rs)) rs
+pub bits_registered : (k : Known) (rs : List ClassicalRegister) → has_repeat bytes_eq (register_names rs) ≡ false → Registered k (fold after k (map bits_statement rs)) rs
 unfolding sizes
 bits_registered k [] e = record {
   included = refl;
@@ -127,15 +127,15 @@ bits_registered k [] e = record {
 }
 bits_registered k (r ∷ rs) e =
     let next : Known = after k (bits_statement r) in
-    let first : list_any (bytes_eq r.name) (names_of rs) ≡ false = left_of (list_any (bytes_eq r.name) (names_of rs)) _ e in
-    let later : Registered next (fold after next (map bits_statement rs)) rs = bits_registered next rs (right_of (list_any (bytes_eq r.name) (names_of rs)) _ e) in record {
+    let first : list_any (bytes_eq r.name) (register_names rs) ≡ false = left_of (list_any (bytes_eq r.name) (register_names rs)) _ e in
+    let later : Registered next (fold after next (map bits_statement rs)) rs = bits_registered next rs (right_of (list_any (bytes_eq r.name) (register_names rs)) _ e) in record {
       included = later.included;
       gates = later.gates;
       wires = later.wires;
       bits = omega (arith, later.bits);
       measured = later.measured;
       kept = λ name f. later.kept name (right_of (bytes_eq name r.name) _ f)
-          ∙ with_other r.name name (bits_register k.bits r.size) k.declared (other_way name r.name (left_of (bytes_eq name r.name) (list_any (λ y. bytes_eq name y) (names_of rs)) f));
+          ∙ with_other r.name name (bits_register k.bits r.size) k.declared (other_way name r.name (left_of (bytes_eq name r.name) (list_any (λ y. bytes_eq name y) (register_names rs)) f));
       registers = (
         later.kept r.name first ∙ ap (λ (b : Bool). if b then Some (bits_register k.bits r.size) else k.declared r.name) (name_same r.name),
         later.registers,
@@ -143,22 +143,22 @@ bits_registered k (r ∷ rs) e =
     }
 
 -- those that are left are still free
-still_free : (name : List ℕ) (m : Meaning) (d : List ℕ → Option Meaning) (rs : List ClassicalRegister) → list_any (bytes_eq name) (names_of rs) ≡ false
+still_free : (name : List ℕ) (m : Meaning) (d : List ℕ → Option Meaning) (rs : List ClassicalRegister) → list_any (bytes_eq name) (register_names rs) ≡ false
     → AllByRecursion (λ r. d r.name ≡ None) rs → AllByRecursion (λ r. with name m d r.name ≡ None) rs
 still_free name m d [] e f = tt
 still_free name m d (r ∷ rs) e f = (
-  with_other name r.name m d (left_of (bytes_eq name r.name) (list_any (bytes_eq name) (names_of rs)) e) ∙ f.0,
+  with_other name r.name m d (left_of (bytes_eq name r.name) (list_any (bytes_eq name) (register_names rs)) e) ∙ f.0,
   still_free name m d rs (right_of (bytes_eq name r.name) _ e) f.1,
 )
 
-pub bits_checked : (k : Known) (rs : List ClassicalRegister) → has_repeat bytes_eq (names_of rs) ≡ false → AllByRecursion IsFree rs
+pub bits_checked : (k : Known) (rs : List ClassicalRegister) → has_repeat bytes_eq (register_names rs) ≡ false → AllByRecursion IsFreeRegister rs
     → AllByRecursion (λ r. k.declared r.name ≡ None) rs → k.bits + sizes rs ≤ 1024 → Run k (map bits_statement rs) [] rs (λ bit. None)
 unfolding sizes
 bits_checked k [] e f d few = Run-nil k
 bits_checked k (r ∷ rs) e f d few =
     let next : Known = after k (bits_statement r) in
-    let first : list_any (bytes_eq r.name) (names_of rs) ≡ false = left_of (list_any (bytes_eq r.name) (names_of rs)) _ e in
+    let first : list_any (bytes_eq r.name) (register_names rs) ≡ false = left_of (list_any (bytes_eq r.name) (register_names rs)) _ e in
     Run-append k (bits_statement r ∷ []) (map bits_statement rs) [] [] (r ∷ []) rs (λ bit. None) (λ bit. None)
     (bits_run k r d.0 f.0.free f.0.some (omega arith))
-    (bits_checked next rs (right_of (list_any (bytes_eq r.name) (names_of rs)) _ e) f.1
+    (bits_checked next rs (right_of (list_any (bytes_eq r.name) (register_names rs)) _ e) f.1
     (still_free r.name (bits_register k.bits r.size) k.declared rs first d.1) (omega arith))

@@ -25,7 +25,7 @@ use Rattle.circuit_list.specs.declared.Gate.TheVariants.{P}
 use Rattle.circuit_list.specs.Gates.{op_of, ops}
 use Rattle.program_parts.specs.Cuts.{chopped}
 use Rattle.unitary_model.specs.declared.Op.{Op}
-use Rattle.qasm_writer.specs.Outputs.{bits_of}
+use Rattle.qasm_writer.specs.Outputs.{register_bits}
 use Rattle.qasm_writer.specs.Texts.{barrier_line, bits_line, index_text, listed, op_line, part_lines, phase_text, read_line, read_lines, register_lines}
 use Rattle.qasm_writer.specs.declared.output.Register.{Register}
 
@@ -130,35 +130,35 @@ parts_within ns k from d size h e =
 
 -- ---- registers
 pub registers-next : (rs : List Register) (i : ℕ) (d : Register) → i < length rs
-    → flat_map bits_line (map bits_of (drop i rs)) ≡ bits_line (bits_of (get_or rs i d)) ++ flat_map bits_line (map bits_of (drop (i + 1) rs))
-registers-next rs i d h = ap (λ z. flat_map bits_line (map bits_of z)) (drop_more rs i d h)
+    → flat_map bits_line (map register_bits (drop i rs)) ≡ bits_line (register_bits (get_or rs i d)) ++ flat_map bits_line (map register_bits (drop (i + 1) rs))
+registers-next rs i d h = ap (λ z. flat_map bits_line (map register_bits z)) (drop_more rs i d h)
 
 pub reads-next : (q name : List ℕ) (rs : List (Option ℕ)) (i : ℕ) (d : Option ℕ) → i < length rs
     → register_lines q name i (drop i rs) ≡ read_line q name i (get_or rs i d) ++ register_lines q name (i + 1) (drop (i + 1) rs)
 reads-next q name rs i d h = ap (λ z. register_lines q name i z) (drop_more rs i d h)
 
 pub register_reads-next : (q : List ℕ) (rs : List Register) (reads : List (Option ℕ)) (i : ℕ) (d : Register) → i < length rs
-    → read_lines q (map bits_of (drop i rs)) reads
+    → read_lines q (map register_bits (drop i rs)) reads
     ≡ register_lines q (get_or rs i d).name.now 0 (take (get_or rs i d).size reads)
-    ++ read_lines q (map bits_of (drop (i + 1) rs)) (drop (get_or rs i d).size reads)
-register_reads-next q rs reads i d h = ap (λ z. read_lines q (map bits_of z) reads) (drop_more rs i d h)
+    ++ read_lines q (map register_bits (drop (i + 1) rs)) (drop (get_or rs i d).size reads)
+register_reads-next q rs reads i d h = ap (λ z. read_lines q (map register_bits z) reads) (drop_more rs i d h)
 
 pub register_reads-split : (q : List ℕ) (rs : List Register) (reads own others : List (Option ℕ)) (i : ℕ) (d : Register) → i < length rs
     → own ≡ take (get_or rs i d).size reads → others ≡ drop (get_or rs i d).size reads
-    → read_lines q (map bits_of (drop i rs)) reads
-    ≡ register_lines q (get_or rs i d).name.now 0 own ++ read_lines q (map bits_of (drop (i + 1) rs)) others
+    → read_lines q (map register_bits (drop i rs)) reads
+    ≡ register_lines q (get_or rs i d).name.now 0 own ++ read_lines q (map register_bits (drop (i + 1) rs)) others
 register_reads-split q rs reads own others i d h front back = rw (front, back) (register_reads-next q rs reads i d h)
 
-pub bits-next : (rs : List Register) (i : ℕ) (d : Register) → i < length rs → sum_by (λ r. r.size) (map bits_of (drop i rs))
-    ≡ (get_or rs i d).size + sum_by (λ r. r.size) (map bits_of (drop (i + 1) rs))
+pub bits-next : (rs : List Register) (i : ℕ) (d : Register) → i < length rs → sum_by (λ r. r.size) (map register_bits (drop i rs))
+    ≡ (get_or rs i d).size + sum_by (λ r. r.size) (map register_bits (drop (i + 1) rs))
 bits-next rs i d h =
-    ap (λ z. sum_by (λ r. r.size) (map bits_of z)) (drop_more rs i d h)
-    ∙ sum_by-cons (λ r. r.size) (bits_of (get_or rs i d)) (map bits_of (drop (i + 1) rs))
+    ap (λ z. sum_by (λ r. r.size) (map register_bits z)) (drop_more rs i d h)
+    ∙ sum_by-cons (λ r. r.size) (register_bits (get_or rs i d)) (map register_bits (drop (i + 1) rs))
 
 -- the reads behind those of one register are enough for the others
 pub reads_enough : (rs : List Register) (reads others : List (Option ℕ)) (i : ℕ) (d : Register) → i < length rs
-    → sum_by (λ r. r.size) (map bits_of (drop i rs)) ≤ length reads → others ≡ drop (get_or rs i d).size reads
-    → sum_by (λ r. r.size) (map bits_of (drop (i + 1) rs)) ≤ length others
+    → sum_by (λ r. r.size) (map register_bits (drop i rs)) ≤ length reads → others ≡ drop (get_or rs i d).size reads
+    → sum_by (λ r. r.size) (map register_bits (drop (i + 1) rs)) ≤ length others
 reads_enough rs reads others i d h enough back =
     let left : length others ≡ length reads - (get_or rs i d).size = rw back (length-drop (get_or rs i d).size reads) in
     omega (arith, left, enough, bits-next rs i d h)

@@ -20,13 +20,13 @@ use Rattle.gate_library.specs.Gates.{BoundGate, u, cx}
 use Rattle.gate_library.specs.Library.{library, table_names}
 use Rattle.gate_library.specs.Names.{is_one_of}
 use Rattle.gate_library.specs.Operands.{upto}
-use Rattle.qasm_check.specs.Known.{Known, fresh}
-use Rattle.qasm_check.specs.Steps.{Step, after, known}
+use Rattle.qasm_check.specs.Known.{Known, nothing_known}
+use Rattle.qasm_check.specs.Steps.{BoundStep, after, known}
 use Rattle.qasm_check.specs.declared.register.ClassicalRegister.{ClassicalRegister}
 use Rattle.gate_inline.specs.Inlined.{operations}
 use Rattle.gate_inline.specs.Meanings.{meanings}
 use Rattle.gate_inline.specs.Programs.{Means}
-use Rattle.gate_inline.specs.Registers.{AreRegisters, IsFree, IsRead, names_of}
+use Rattle.gate_inline.specs.Registers.{AreRegisters, IsFreeRegister, IsRead, register_names}
 use Rattle.gate_inline.specs.Splits.{AreOperations}
 use Rattle.qasm_writer.specs.Texts.{IsQubitsName}
 use Rattle.qasm_writer.specs.Trees.{bits_statement, part_statements, read_statements, wires_statements, written_tree}
@@ -73,18 +73,18 @@ no_gate : (q : List ℕ) (rs : List ClassicalRegister) → IsQubitsName rs q →
 no_gate q rs h = ap (is_one_of table_names) h.spelt ∙ no_table_name h.underscores
 
 -- the registers' names are none of the quantum register's, and none of a gate's
-all_free : (q : List ℕ) (n : ℕ) (l : Known) → Wired l q n → (rs : List ClassicalRegister) → is_one_of (names_of rs) q ≡ false → AllByRecursion (λ r. l.declared r.name ≡ None) rs
+all_free : (q : List ℕ) (n : ℕ) (l : Known) → Wired l q n → (rs : List ClassicalRegister) → is_one_of (register_names rs) q ≡ false → AllByRecursion (λ r. l.declared r.name ≡ None) rs
 all_free q n l w [] e = tt
 all_free q n l w (r ∷ rs) e =
-    (w.others r.name (left_of (bytes_eq q r.name) (is_one_of (names_of rs) q) e), all_free q n l w rs (right_of (bytes_eq q r.name) (is_one_of (names_of rs) q) e))
+    (w.others r.name (left_of (bytes_eq q r.name) (is_one_of (register_names rs) q) e), all_free q n l w rs (right_of (bytes_eq q r.name) (is_one_of (register_names rs) q) e))
 
-no_register : (rs : List ClassicalRegister) (name : List ℕ) → AllByRecursion IsFree rs → is_one_of table_names name ≡ true → is_one_of (names_of rs) name ≡ false
+no_register : (rs : List ClassicalRegister) (name : List ℕ) → AllByRecursion IsFreeRegister rs → is_one_of table_names name ≡ true → is_one_of (register_names rs) name ≡ false
 no_register [] name f e = refl
 no_register (r ∷ rs) name f e =
     λ j. other_way r.name name (kept_apart table_names name r.name e f.0.free) j || no_register rs name f.1 e j
 
-ready : (q : List ℕ) (n : ℕ) (rs : List ClassicalRegister) (k l : Known) → Wired k q n → Registered k l rs → is_one_of table_names q ≡ false → is_one_of (names_of rs) q ≡ false
-    → AllByRecursion IsFree rs → IsReady l q n
+ready : (q : List ℕ) (n : ℕ) (rs : List ClassicalRegister) (k l : Known) → Wired k q n → Registered k l rs → is_one_of table_names q ≡ false → is_one_of (register_names rs) q ≡ false
+    → AllByRecursion IsFreeRegister rs → IsReady l q n
 ready q n rs k l w r t e f = record {
   included = r.included ∙ w.included;
   gates = r.gates ∙ w.gates;
@@ -95,7 +95,7 @@ ready q n rs k l w r t e f = record {
 
 -- ---- the whole tree
 record Whole (q : List ℕ) (n : ℕ) (us : List Op) (parts : List (List Op)) (bs : List (List ℕ)) (rs : List ClassicalRegister) (reads : List (Option ℕ)) : Type 0 where
-  run : Parted fresh (written_tree q n (in_parts (us ∷ parts) bs) rs reads).list us parts bs rs (read_from 0 reads)
+  run : Parted nothing_known (written_tree q n (in_parts (us ∷ parts) bs) rs reads).list us parts bs rs (read_from 0 reads)
   gates : (known (written_tree q n (in_parts (us ∷ parts) bs) rs reads).list).gates ≡ u ∷ cx ∷ library
   wires : (known (written_tree q n (in_parts (us ∷ parts) bs) rs reads).list).wires ≡ n
   bits : (known (written_tree q n (in_parts (us ∷ parts) bs) rs reads).list).bits ≡ length reads
@@ -109,7 +109,7 @@ header_run k xs ys us parts bs rs f r s =
 whole_tree : (q : List ℕ) (n : ℕ) (us : List Op) (parts : List (List Op)) (bs : List (List ℕ)) (rs : List ClassicalRegister) (reads : List (Option ℕ))
     → AreParts q n (us ∷ parts) bs rs reads → Whole q n us parts bs rs reads
 whole_tree q n us parts bs rs reads h =
-    let free : AllByRecursion IsFree rs = recursion_from_All IsFree rs h.registers.each in
+    let free : AllByRecursion IsFreeRegister rs = recursion_from_All IsFreeRegister rs h.registers.each in
     let total : sizes rs ≡ length reads = sym (sum-sizes rs) ∙ h.registers.all in
     let few : length reads ≤ 1024 = h.registers.few in
     let table : is_one_of table_names q ≡ false = no_gate q rs h.name in
@@ -126,7 +126,7 @@ whole_tree q n us parts bs rs reads h =
     let end = end_is q n (us ∷ parts) bs rs reads in
     let body : List Statement = part_statements q (us ∷ parts) bs ++ read_statements q rs reads in
     record {
-      run = Parted-front fresh (include (codes "qelib1.inc") ∷ []) (wires_statements q n ++ (map bits_statement rs ++ body)) [] us parts bs [] rs (read_from 0 reads) include_run
+      run = Parted-front nothing_known (include (codes "qelib1.inc") ∷ []) (wires_statements q n ++ (map bits_statement rs ++ body)) [] us parts bs [] rs (read_from 0 reads) include_run
           (Parted-front begun (wires_statements q n) (map bits_statement rs ++ body) [] us parts bs [] rs (read_from 0 reads) w.0
           (header_run (wired q n) (map bits_statement rs) body us parts bs rs (read_from 0 reads) listed
           (parts_run (registered q n rs) q n us parts bs (read_statements q rs reads) (read_from 0 reads) able h.ops h.bars (omega (arith, h.cut)) last.0)));
@@ -155,10 +155,10 @@ written_tree-means q n (us ∷ parts) bs rs reads h =
     AreOperations-answers (known list).gates (w.run.here ∷ w.run.later) (us ∷ parts) (ap meanings w.gates) (w.run.first, w.run.others) in
     record {
       wires = sym w.wires;
-      ops = ap (λ (gs : List BoundGate). operations gs (steps fresh list)) w.gates ∙ w.run.ops;
+      ops = ap (λ (gs : List BoundGate). operations gs (steps nothing_known list)) w.gates ∙ w.run.ops;
       cut = record {
-        parts = subst (λ (c : Cut Step). AreOperations (known list).gates c.parts (us ∷ parts)) (sym w.run.cut) answers;
-        bars = sym (ap (λ (c : Cut Step). c.bars) w.run.cut);
+        parts = subst (λ (c : Cut BoundStep). AreOperations (known list).gates c.parts (us ∷ parts)) (sym w.run.cut) answers;
+        bars = sym (ap (λ (c : Cut BoundStep). c.bars) w.run.cut);
       };
       reads = sym ((λ i. map (λ bit. w.run.reads bit i) (upto (known list).bits))
           ∙ ap (λ bits. map (read_from 0 reads) (upto bits)) w.bits ∙ reads_listed reads);

@@ -15,7 +15,7 @@ use Rattle.circuit_list.specs.Gates.{IsFine, ops}
 use Rattle.gate_inline.specs.Programs.{IsTreeOf, IsWritten, Means}
 use Rattle.program_parts.specs.Cuts.{IsCut, chopped, whole}
 use Rattle.qasm_check.specs.Checking.{bound}
-use Rattle.qasm_writer.specs.Outputs.{IsOutput, bits_of, cut_of, program_of}
+use Rattle.qasm_writer.specs.Outputs.{IsOutput, register_bits, output_cut, program_of}
 use Rattle.qasm_writer.specs.Texts.{IsQubitsName}
 use Rattle.qasm_writer.specs.Trees.{written_tree}
 use Rattle.qasm_writer.specs.declared.output.Output.{Output}
@@ -46,10 +46,10 @@ length-chopped [] xs = refl
 length-chopped (n ∷ ns) xs = ap (λ k. suc k) (length-chopped ns (drop n xs))
 
 -- ---- what is handed over
-pub IsCut-lengths : (o : Output) → IsCut (cut_of o) → length o.lengths.now ≡ length o.barriers.now + 1
+pub IsCut-lengths : (o : Output) → IsCut (output_cut o) → length o.lengths.now ≡ length o.barriers.now + 1
 IsCut-lengths o h =
-    let parts : length (cut_of o).parts ≡ length o.lengths.now = length-chopped o.lengths.now (ops o.body.now.gates) in
-    let bars : length (cut_of o).bars ≡ length o.barriers.now = length-map o.barriers.now _ in
+    let parts : length (output_cut o).parts ≡ length o.lengths.now = length-chopped o.lengths.now (ops o.body.now.gates) in
+    let bars : length (output_cut o).bars ≡ length o.barriers.now = length-map o.barriers.now _ in
     omega (arith, h, parts, bars)
 
 named : (n : ℕ) (bs : List (List ℕ)) → AllByRecursion (λ (ws : List ℕ). ws ≡ [] → ⊥) bs → AllByRecursion (All (λ w. w < n)) bs → AllByRecursion (IsNamed n) bs
@@ -57,21 +57,21 @@ named n [] some there = tt
 named n (ws ∷ bs) some there = ((some.0, recursion_from_All (λ w. w < n) ws there.0), named n bs some.1 there.1)
 
 pub ArePlaced-output : (o : Output) → All (IsFine o.body.now.wires) o.body.now.gates
-    → AllByRecursion (AllByRecursion (IsWritable o.body.now.wires)) (cut_of o).parts
+    → AllByRecursion (AllByRecursion (IsWritable o.body.now.wires)) (output_cut o).parts
 ArePlaced-output o fine =
     let n = o.body.now.wires in
     chopped-each (IsWritable n) o.lengths.now (ops o.body.now.gates)
     (IsWritable-ops n o.body.now.gates (recursion_from_All (IsFine n) o.body.now.gates fine))
 
-pub AreNamed-output : (o : Output) → IsOutput o → AllByRecursion (IsNamed o.body.now.wires) (cut_of o).bars
+pub AreNamed-output : (o : Output) → IsOutput o → AllByRecursion (IsNamed o.body.now.wires) (output_cut o).bars
 AreNamed-output o h =
     let n = o.body.now.wires in
-    named n (cut_of o).bars (recursion_from_All (λ (ws : List ℕ). ws ≡ [] → ⊥) (cut_of o).bars h.some)
-    (recursion_from_All (All (λ w. w < n)) (cut_of o).bars h.there)
+    named n (output_cut o).bars (recursion_from_All (λ (ws : List ℕ). ws ≡ [] → ⊥) (output_cut o).bars h.some)
+    (recursion_from_All (All (λ w. w < n)) (output_cut o).bars h.there)
 
-pub AreParts-output : (o : Output) (q : List ℕ) → IsOutput o → IsQubitsName (map bits_of o.registers.now) q → o.body.now.wires ≤ most_qubits
+pub AreParts-output : (o : Output) (q : List ℕ) → IsOutput o → IsQubitsName (map register_bits o.registers.now) q → o.body.now.wires ≤ most_qubits
     → All (IsFine o.body.now.wires) o.body.now.gates
-    → AreParts q o.body.now.wires (cut_of o).parts (cut_of o).bars (map bits_of o.registers.now) o.reads.now
+    → AreParts q o.body.now.wires (output_cut o).parts (output_cut o).bars (map register_bits o.registers.now) o.reads.now
 AreParts-output o q h name few fine = record {
   name = name;
   few = few;
@@ -82,14 +82,14 @@ AreParts-output o q h name few fine = record {
   reads = h.reads;
 }
 
-pub IsWritten-spelt : (o : Output) (q text : List ℕ) → IsOutput o → IsQubitsName (map bits_of o.registers.now) q → o.body.now.wires ≤ most_qubits
+pub IsWritten-spelt : (o : Output) (q text : List ℕ) → IsOutput o → IsQubitsName (map register_bits o.registers.now) q → o.body.now.wires ≤ most_qubits
     → All (IsFine o.body.now.wires) o.body.now.gates
-    → IsTreeOf text (written_tree q o.body.now.wires (cut_of o) (map bits_of o.registers.now) o.reads.now)
+    → IsTreeOf text (written_tree q o.body.now.wires (output_cut o) (map register_bits o.registers.now) o.reads.now)
     → IsWritten text (program_of o)
 IsWritten-spelt o q text h name few fine spelt =
     let n = o.body.now.wires in
-    let c = cut_of o in
-    let rs = map bits_of o.registers.now in
+    let c = output_cut o in
+    let rs = map register_bits o.registers.now in
     let parts : AreParts q n c.parts c.bars rs o.reads.now = AreParts-output o q h name few fine in
     let cut = in_parts c.parts c.bars in
     let all : whole c.parts ≡ ops o.body.now.gates =

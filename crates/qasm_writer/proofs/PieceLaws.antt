@@ -13,7 +13,7 @@ use Rattle.std.proofs.Common.{◌≡◌, ℕ, ◌+◌, List, [], ◌++◌, Optio
 use Rattle.std.proofs.Math.Seq.{take-append-add}
 use Rattle.std.proofs.lemmas.List.{take-append-le}
 use Rattle.outside_io.specs.Bytes.{Gains, GainsPrefix}
-use Rattle.qasm_writer.specs.Pieces.{Leads, Sends}
+use Rattle.qasm_writer.specs.Pieces.{HasSentOrHeld, Sends}
 
 pub Gains-append : (a b c : Option (List ℕ)) (xs ys : List ℕ) → Gains a b xs → Gains b c ys → Gains a c (xs ++ ys)
 Gains-append a b None xs ys p q = tt
@@ -26,11 +26,11 @@ Gains-none None = tt
 Gains-none (Some xs) = sym (append-nil xs)
 
 -- the bytes in the buffer and those that are left are what was put in
-pub Leads-start : (a : Option (List ℕ)) (r s bytes rest : List ℕ) → r ++ bytes ≡ s ++ rest → Leads a r a s bytes rest
+pub Leads-start : (a : Option (List ℕ)) (r s bytes rest : List ℕ) → r ++ bytes ≡ s ++ rest → HasSentOrHeld a r a s bytes rest
 Leads-start a r s bytes rest e = record { sent = []; gained = Gains-none a; all = e }
 
-pub Leads-sent : (a b c : Option (List ℕ)) (r s t new bytes rest others : List ℕ) → Leads a r b s bytes rest → Gains b c s → t ≡ []
-    → t ++ rest ≡ new ++ others → Leads a r c new bytes others
+pub Leads-sent : (a b c : Option (List ℕ)) (r s t new bytes rest others : List ℕ) → HasSentOrHeld a r b s bytes rest → Gains b c s → t ≡ []
+    → t ++ rest ≡ new ++ others → HasSentOrHeld a r c new bytes others
 Leads-sent a b c r s t new bytes rest others h gained empty e =
     let left : rest ≡ new ++ others = rw empty at e in
     record {
@@ -50,7 +50,7 @@ prefix-behind a b c sent s rest whole gained h e =
     ap (λ z. take (length sent + n) z) e ∙ take-append-add sent (s ++ rest) n ∙ ap (λ z. sent ++ z) (take-append-le n s rest h.1) in
     (length sent + n, omega (arith, long, longer, h.1), rw part (Gains-append a b c sent (take n s) gained h.2))
 
-pub Leads-fault : (a b c : Option (List ℕ)) (r s bytes rest : List ℕ) → Leads a r b s bytes rest → GainsPrefix b c s
+pub Leads-fault : (a b c : Option (List ℕ)) (r s bytes rest : List ℕ) → HasSentOrHeld a r b s bytes rest → GainsPrefix b c s
     → GainsPrefix a c (r ++ bytes)
 Leads-fault a b c r s bytes rest h failed = prefix-behind a b c h.sent s rest (r ++ bytes) h.gained failed h.all
 
@@ -77,11 +77,11 @@ fault-then a b c r s xs ys h failed =
     ∙ ap (λ z. h.sent ++ (z ++ ys)) (append-nil s) ∙ ap (λ z. h.sent ++ z) (sym (append-nil (s ++ ys))) in
     prefix-behind a b c h.sent (s ++ ys) [] (r ++ (xs ++ ys)) h.gained failed all
 
-pub Leads-all : (a : Option (List ℕ)) (r all : List ℕ) → Leads a r a r all all
+pub Leads-all : (a : Option (List ℕ)) (r all : List ℕ) → HasSentOrHeld a r a r all all
 Leads-all a r all = Leads-start a r r all all refl
 
-pub Leads-more : (a b c : Option (List ℕ)) (r s t all rest line others : List ℕ) → Leads a r b s all rest → rest ≡ line ++ others
-    → Sends b s c t line → Leads a r c t all others
+pub Leads-more : (a b c : Option (List ℕ)) (r s t all rest line others : List ℕ) → HasSentOrHeld a r b s all rest → rest ≡ line ++ others
+    → Sends b s c t line → HasSentOrHeld a r c t all others
 Leads-more a b c r s t all rest line others h e k =
     let behind : s ++ rest ≡ k.sent ++ (t ++ others) =
     ap (λ z. s ++ z) e ∙ sym (append_assoc s line others) ∙ ap (λ z. z ++ others) k.all
@@ -92,15 +92,15 @@ Leads-more a b c r s t all rest line others h e k =
       all = h.all ∙ ap (λ z. h.sent ++ z) behind ∙ sym (append_assoc h.sent k.sent (t ++ others));
     }
 
-pub Leads-stop : (a b c : Option (List ℕ)) (r s all rest line others : List ℕ) → Leads a r b s all rest → rest ≡ line ++ others
+pub Leads-stop : (a b c : Option (List ℕ)) (r s all rest line others : List ℕ) → HasSentOrHeld a r b s all rest → rest ≡ line ++ others
     → GainsPrefix b c (s ++ line) → GainsPrefix a c (r ++ all)
 Leads-stop a b c r s all rest line others h e failed =
     let whole : r ++ all ≡ h.sent ++ ((s ++ line) ++ others) =
     h.all ∙ ap (λ z. h.sent ++ (s ++ z)) e ∙ ap (λ z. h.sent ++ z) (sym (append_assoc s line others)) in
     prefix-behind a b c h.sent (s ++ line) others (r ++ all) h.gained failed whole
 
-pub Leads-end : (a b : Option (List ℕ)) (r s all rest : List ℕ) → Leads a r b s all rest → rest ≡ [] → Sends a r b s all
-Leads-end a b r s all rest h e = subst (λ (z : List ℕ). Leads a r b s all z) e h
+pub Leads-end : (a b : Option (List ℕ)) (r s all rest : List ℕ) → HasSentOrHeld a r b s all rest → rest ≡ [] → Sends a r b s all
+Leads-end a b r s all rest h e = subst (λ (z : List ℕ). HasSentOrHeld a r b s all z) e h
 
 pub Sends-none : (a : Option (List ℕ)) (r : List ℕ) → Sends a r a r []
 Sends-none a r = Leads-all a r []
@@ -121,12 +121,12 @@ pub then-err : {T E : Type 0} (x : Result T E) (a b c : Option (List ℕ)) (r s 
 then-err (Ok v) a b c r s xs ys h k = tt
 then-err (Err e) a b c r s xs ys h k = fault-then a b c r s xs ys h k
 
-pub last-ok : {T E : Type 0} (x : Result T E) (a b c : Option (List ℕ)) (r s t all rest line : List ℕ) → Leads a r b s all rest → rest ≡ line
+pub last-ok : {T E : Type 0} (x : Result T E) (a b c : Option (List ℕ)) (r s t all rest line : List ℕ) → HasSentOrHeld a r b s all rest → rest ≡ line
     → OnOk x (Sends b s c t line) → OnOk x (Sends a r c t all)
 last-ok (Ok v) a b c r s t all rest line h e k = Leads-more a b c r s t all rest line [] h (e ∙ sym (append-nil line)) k
 last-ok (Err f) a b c r s t all rest line h e k = tt
 
-pub last-err : {T E : Type 0} (x : Result T E) (a b c : Option (List ℕ)) (r s all rest line : List ℕ) → Leads a r b s all rest → rest ≡ line
+pub last-err : {T E : Type 0} (x : Result T E) (a b c : Option (List ℕ)) (r s all rest line : List ℕ) → HasSentOrHeld a r b s all rest → rest ≡ line
     → OnErr x (GainsPrefix b c (s ++ line)) → OnErr x (GainsPrefix a c (r ++ all))
 last-err (Ok v) a b c r s all rest line h e failed = tt
 last-err (Err f) a b c r s all rest line h e failed = Leads-stop a b c r s all rest line [] h (e ∙ sym (append-nil line)) failed

@@ -21,18 +21,18 @@ use Rattle.program_parts.specs.Cuts.{Cut, cut_at, cut_by, whole}
 use Rattle.qasm_parser.specs.Tree.{Statement, act, barrier}
 use Rattle.qasm_parser.specs.declared.tree.Arg.{Arg}
 use Rattle.qasm_check.specs.Arguments.{operands}
-use Rattle.qasm_check.specs.Checking.{AllFine, bits_of, steps}
+use Rattle.qasm_check.specs.Checking.{AllFine, declared_bits, steps}
 use Rattle.qasm_check.specs.Bound.{is_barrier}
 use Rattle.gate_library.specs.Gates.{BoundGate, u, cx}
 use Rattle.gate_library.specs.Library.{library}
 use Rattle.gate_library.specs.declared.operand.Operand.{Operand}
 use Rattle.qasm_check.specs.Known.{Known}
-use Rattle.qasm_check.specs.Refusals.{IsFine}
-use Rattle.qasm_check.specs.Steps.{Step, applies, measures, bars, nothing, after, step}
+use Rattle.qasm_check.specs.Refusals.{IsUnrefused}
+use Rattle.qasm_check.specs.Steps.{BoundStep, applies, measures, barrier_on, nothing, after, statement_step}
 use Rattle.qasm_check.specs.declared.register.ClassicalRegister.{ClassicalRegister}
 use Rattle.gate_inline.specs.Meanings.{Evaluation, Meaning, followed, joined, meanings, step_answer}
 use Rattle.gate_inline.specs.Reads.{last_read, step_read}
-use Rattle.gate_inline.specs.Splits.{AreOperations, bar_of}
+use Rattle.gate_inline.specs.Splits.{AreOperations, barrier_wires}
 
 unfoldable pub standard_meanings : List Meaning
 standard_meanings = meanings (u ∷ cx ∷ library)
@@ -40,7 +40,7 @@ standard_meanings = meanings (u ∷ cx ∷ library)
 pub record Run (k : Known) (ss : List Statement) (us : List Op) (rs : List ClassicalRegister) (f : ℕ → Option ℕ) : Type 0 where
   pub fine : AllFine k ss
   pub ops : ◌≡◌ {A = Evaluation} (joined (map (step_answer standard_meanings) (steps k ss))) (Ok us)
-  pub registers : filter_map bits_of ss ≡ rs
+  pub registers : filter_map declared_bits ss ≡ rs
   pub reads : (bit : ℕ) → last_read (steps k ss) bit ≡ f bit
   pub quiet : AllByRecursion (λ s. is_barrier s ≡ false) (steps k ss)
 
@@ -64,7 +64,7 @@ all_fine-append k (x ∷ xs) ys f g = (f.0, all_fine-append (after k x) xs ys f.
 
 pub steps-append : (k : Known) (xs ys : List Statement) → steps k (xs ++ ys) ≡ steps k xs ++ steps (fold after k xs) ys
 steps-append k [] ys = refl
-steps-append k (x ∷ xs) ys = ap (λ (ss : List Step). step k x ∷ ss) (steps-append (after k x) xs ys)
+steps-append k (x ∷ xs) ys = ap (λ (ss : List BoundStep). statement_step k x ∷ ss) (steps-append (after k x) xs ys)
 
 pub none_or : {A : Type 0} (o : Option A) → option_or o None ≡ o
 none_or None = refl
@@ -74,7 +74,7 @@ pub or_or : {A : Type 0} (a b c : Option A) → option_or (option_or a b) c ≡ 
 or_or None b c = refl
 or_or (Some x) b c = refl
 
-last_read-append : (xs ys : List Step) (bit : ℕ) → last_read (xs ++ ys) bit ≡ option_or (last_read ys bit) (last_read xs bit)
+last_read-append : (xs ys : List BoundStep) (bit : ℕ) → last_read (xs ++ ys) bit ≡ option_or (last_read ys bit) (last_read xs bit)
 last_read-append [] ys bit = sym (none_or (last_read ys bit))
 last_read-append (x ∷ xs) ys bit =
     ap (λ (o : Option ℕ). option_or o (step_read x bit)) (last_read-append xs ys bit)
@@ -97,15 +97,15 @@ pub Run-append : (k : Known) (xs ys : List Statement) (us vs : List Op) (rs ts :
     → Run k xs us rs f → Run (fold after k xs) ys vs ts g → Run k (xs ++ ys) (us ++ vs) (rs ++ ts) (λ bit. option_or (g bit) (f bit))
 Run-append k xs ys us vs rs ts f g r s = record {
   fine = all_fine-append k xs ys r.fine s.fine;
-  ops = ap (λ (ss : List Step). joined (map (step_answer standard_meanings) ss)) (steps-append k xs ys)
+  ops = ap (λ (ss : List BoundStep). joined (map (step_answer standard_meanings) ss)) (steps-append k xs ys)
       ∙ ap joined (map-append (step_answer standard_meanings) (steps k xs) (steps (fold after k xs) ys))
       ∙ joined_both (map (step_answer standard_meanings) (steps k xs)) (map (step_answer standard_meanings) (steps (fold after k xs) ys)) us vs r.ops s.ops;
-  registers = filter_map-append bits_of xs ys ∙ (λ i. r.registers i ++ s.registers i);
-  reads = λ bit. ap (λ (ss : List Step). last_read ss bit) (steps-append k xs ys)
+  registers = filter_map-append declared_bits xs ys ∙ (λ i. r.registers i ++ s.registers i);
+  reads = λ bit. ap (λ (ss : List BoundStep). last_read ss bit) (steps-append k xs ys)
       ∙ last_read-append (steps k xs) (steps (fold after k xs) ys) bit
       ∙ (λ i. option_or (s.reads bit i) (r.reads bit i));
-  quiet = subst (AllByRecursion (λ (x : Step). is_barrier x ≡ false)) (sym (steps-append k xs ys))
-      (each-append (λ (x : Step). is_barrier x ≡ false) (steps k xs) (steps (fold after k xs) ys) r.quiet s.quiet);
+  quiet = subst (AllByRecursion (λ (x : BoundStep). is_barrier x ≡ false)) (sym (steps-append k xs ys))
+      (each-append (λ (x : BoundStep). is_barrier x ≡ false) (steps k xs) (steps (fold after k xs) ys) r.quiet s.quiet);
 }
 
 pub Run-reads : (k : Known) (ss : List Statement) (us : List Op) (rs : List ClassicalRegister) (f g : ℕ → Option ℕ)
@@ -119,67 +119,67 @@ Run-reads k ss us rs f g e r = record {
 }
 
 -- ---- one statement
-pub Run-one : (k : Known) (s : Statement) (x : Step) (us : List Op) (o : Option ClassicalRegister) (f : ℕ → Option ℕ)
-    → IsFine k s → step k s ≡ x → ◌≡◌ {A = Evaluation} (step_answer standard_meanings x) (Ok us) → bits_of s ≡ o → ((bit : ℕ) → step_read x bit ≡ f bit)
+pub Run-one : (k : Known) (s : Statement) (x : BoundStep) (us : List Op) (o : Option ClassicalRegister) (f : ℕ → Option ℕ)
+    → IsUnrefused k s → statement_step k s ≡ x → ◌≡◌ {A = Evaluation} (step_answer standard_meanings x) (Ok us) → declared_bits s ≡ o → ((bit : ℕ) → step_read x bit ≡ f bit)
     → is_barrier x ≡ false → Run k (s ∷ []) us (cons_option o []) f
 Run-one k s x us o f fine does e b reads p = record {
   fine = (fine, tt);
-  ops = ap (λ (y : Step). followed (step_answer standard_meanings y) (Ok [])) does ∙ ap (λ (a : Evaluation). followed a (Ok [])) e
+  ops = ap (λ (y : BoundStep). followed (step_answer standard_meanings y) (Ok [])) does ∙ ap (λ (a : Evaluation). followed a (Ok [])) e
       ∙ ap (λ (vs : List Op). Ok vs) (append-nil us);
   registers = ap (λ (c : Option ClassicalRegister). cons_option c []) b;
-  reads = λ bit. ap (λ (y : Step). step_read y bit) does ∙ reads bit;
+  reads = λ bit. ap (λ (y : BoundStep). step_read y bit) does ∙ reads bit;
   quiet = (ap is_barrier does ∙ p, tt);
 }
 
-pub Run-quiet : (k : Known) (s : Statement) (o : Option ClassicalRegister) → IsFine k s → step k s ≡ nothing → bits_of s ≡ o → Run k (s ∷ []) [] (cons_option o []) (λ bit. None)
+pub Run-quiet : (k : Known) (s : Statement) (o : Option ClassicalRegister) → IsUnrefused k s → statement_step k s ≡ nothing → declared_bits s ≡ o → Run k (s ∷ []) [] (cons_option o []) (λ bit. None)
 Run-quiet k s o fine does b = Run-one k s nothing [] o (λ bit. None) fine does refl b (λ bit. refl) refl
 
 -- ---- parts
-abbrev pub answer_of : List Step → Evaluation
+abbrev pub answer_of : List BoundStep → Evaluation
 answer_of ss = joined (map (step_answer standard_meanings) ss)
 
-abbrev pub AreAnswers : List (List Step) → List (List Op) → Type 0
+abbrev pub AreAnswers : List (List BoundStep) → List (List Op) → Type 0
 AreAnswers [] [] = Unit {0}
 AreAnswers (ss ∷ parts) (us ∷ lists) = (◌≡◌ {A = Evaluation} (answer_of ss) (Ok us)) × AreAnswers parts lists
 AreAnswers _ _ = ⊥
 
-abbrev pub cut_in : List Step → List (List Step) → List (List ℕ) → Cut Step
+abbrev pub cut_in : List BoundStep → List (List BoundStep) → List (List ℕ) → Cut BoundStep
 cut_in here later bs = record { parts = here ∷ later; bars = bs }
 
 pub record Parted (k : Known) (ss : List Statement) (us : List Op) (parts : List (List Op)) (bs : List (List ℕ)) (rs : List ClassicalRegister) (f : ℕ → Option ℕ) : Type 0 where
   pub fine : AllFine k ss
-  pub here : List Step
-  pub later : List (List Step)
-  pub cut : cut_at bar_of (steps k ss) ≡ cut_in here later bs
+  pub here : List BoundStep
+  pub later : List (List BoundStep)
+  pub cut : cut_at barrier_wires (steps k ss) ≡ cut_in here later bs
   pub first : ◌≡◌ {A = Evaluation} (answer_of here) (Ok us)
   pub others : AreAnswers later parts
   pub ops : ◌≡◌ {A = Evaluation} (answer_of (steps k ss)) (Ok (us ++ whole parts))
-  pub registers : filter_map bits_of ss ≡ rs
+  pub registers : filter_map declared_bits ss ≡ rs
   pub reads : (bit : ℕ) → last_read (steps k ss) bit ≡ f bit
   pub barriers : count_by is_barrier (steps k ss) ≡ length bs
 
-no_bar : (s : Step) → is_barrier s ≡ false → bar_of s ≡ None
+no_bar : (s : BoundStep) → is_barrier s ≡ false → barrier_wires s ≡ None
 no_bar (applies gate angles operands) e = refl
 no_bar (measures qubit bit) e = refl
-no_bar (bars operands) e = absurd (cc)
+no_bar (barrier_on operands) e = absurd (cc)
 no_bar nothing e = refl
 
-cut-front : (xs ys here : List Step) (later : List (List Step)) (bs : List (List ℕ)) → AllByRecursion (λ s. is_barrier s ≡ false) xs
-    → cut_at bar_of ys ≡ cut_in here later bs → cut_at bar_of (xs ++ ys) ≡ cut_in (xs ++ here) later bs
+cut-front : (xs ys here : List BoundStep) (later : List (List BoundStep)) (bs : List (List ℕ)) → AllByRecursion (λ s. is_barrier s ≡ false) xs
+    → cut_at barrier_wires ys ≡ cut_in here later bs → cut_at barrier_wires (xs ++ ys) ≡ cut_in (xs ++ here) later bs
 cut-front [] ys here later bs q e = e
 cut-front (x ∷ xs) ys here later bs q e = λ j. cut_by (no_bar x q.0 j) x (cut-front xs ys here later bs q.1 e j)
 
 nought-add : (n : ℕ) → 0 + n ≡ n
 nought-add n = omega arith
 
-count-front : (xs ys : List Step) → AllByRecursion (λ s. is_barrier s ≡ false) xs → count_by is_barrier (xs ++ ys) ≡ count_by is_barrier ys
+count-front : (xs ys : List BoundStep) → AllByRecursion (λ s. is_barrier s ≡ false) xs → count_by is_barrier (xs ++ ys) ≡ count_by is_barrier ys
 count-front [] ys q = refl
 count-front (x ∷ xs) ys q =
     sum_by-cons (λ s. cond (is_barrier s) 1 0) x (xs ++ ys)
     ∙ ap (λ (b : Bool). cond b 1 0 + count_by is_barrier (xs ++ ys)) q.0 ∙ nought-add (count_by is_barrier (xs ++ ys)) ∙ count-front xs ys q.1
 
-count-bar : (ps : List Operand) (ys : List Step) → count_by is_barrier (bars ps ∷ ys) ≡ suc (count_by is_barrier ys)
-count-bar ps ys = sum_by-cons (λ s. cond (is_barrier s) 1 0) (bars ps) ys ∙ one-add (count_by is_barrier ys)
+count-bar : (ps : List Operand) (ys : List BoundStep) → count_by is_barrier (barrier_on ps ∷ ys) ≡ suc (count_by is_barrier ys)
+count-bar ps ys = sum_by-cons (λ s. cond (is_barrier s) 1 0) (barrier_on ps) ys ∙ one-add (count_by is_barrier ys)
 
 pub Parted-run : (k : Known) (ss : List Statement) (us : List Op) (rs : List ClassicalRegister) (f : ℕ → Option ℕ) → Run k ss us rs f → Parted k ss us [] [] rs f
 Parted-run k ss us rs f r =
@@ -187,7 +187,7 @@ Parted-run k ss us rs f r =
       fine = r.fine;
       here = steps k ss;
       later = [];
-      cut = subst (λ (z : List Step). cut_at bar_of z ≡ cut_in z [] []) all (cut-front (steps k ss) [] [] [] [] r.quiet refl);
+      cut = subst (λ (z : List BoundStep). cut_at barrier_wires z ≡ cut_in z [] []) all (cut-front (steps k ss) [] [] [] [] r.quiet refl);
       first = r.ops;
       others = tt;
       ops = r.ops ∙ ap (λ (vs : List Op). Ok vs) (sym (append-nil us));
@@ -196,7 +196,7 @@ Parted-run k ss us rs f r =
       barriers = ap (count_by is_barrier) (sym all) ∙ count-front (steps k ss) [] r.quiet;
     }
 
-answer-append : (xs ys : List Step) (us vs : List Op) → ◌≡◌ {A = Evaluation} (answer_of xs) (Ok us) → ◌≡◌ {A = Evaluation} (answer_of ys) (Ok vs)
+answer-append : (xs ys : List BoundStep) (us vs : List Op) → ◌≡◌ {A = Evaluation} (answer_of xs) (Ok us) → ◌≡◌ {A = Evaluation} (answer_of ys) (Ok vs)
     → ◌≡◌ {A = Evaluation} (answer_of (xs ++ ys)) (Ok (us ++ vs))
 answer-append xs ys us vs e f =
     ap joined (map-append (step_answer standard_meanings) xs ys)
@@ -211,25 +211,25 @@ Parted-front k xs ys vs us parts bs rs ts f r s =
       fine = all_fine-append k xs ys r.fine s.fine;
       here = here ++ s.here;
       later = s.later;
-      cut = ap (cut_at bar_of) all ∙ cut-front here later s.here s.later bs r.quiet s.cut;
+      cut = ap (cut_at barrier_wires) all ∙ cut-front here later s.here s.later bs r.quiet s.cut;
       first = answer-append here s.here vs us r.ops s.first;
       others = s.others;
       ops = ap answer_of all ∙ answer-append here later vs (us ++ whole parts) r.ops s.ops
           ∙ ap (λ (ws : List Op). Ok ws) (sym (append_assoc vs us (whole parts)));
-      registers = filter_map-append bits_of xs ys ∙ (λ i. r.registers i ++ s.registers i);
-      reads = λ bit. ap (λ (ss : List Step). last_read ss bit) all ∙ last_read-append here later bit
+      registers = filter_map-append declared_bits xs ys ∙ (λ i. r.registers i ++ s.registers i);
+      reads = λ bit. ap (λ (ss : List BoundStep). last_read ss bit) all ∙ last_read-append here later bit
           ∙ (λ i. option_or (s.reads bit i) (r.reads bit i)) ∙ none_or (f bit);
       barriers = ap (count_by is_barrier) all ∙ count-front here later r.quiet ∙ s.barriers;
     }
 
 pub Parted-bar : (k : Known) (args : List Arg) (ws : List ℕ) (ys : List Statement) (us : List Op) (parts : List (List Op)) (bs : List (List ℕ)) (ts : List ClassicalRegister)
-    (f : ℕ → Option ℕ) → IsFine k (act (barrier args)) → bar_of (bars (operands k args)) ≡ Some ws → Parted k ys us parts bs ts f
+    (f : ℕ → Option ℕ) → IsUnrefused k (act (barrier args)) → barrier_wires (barrier_on (operands k args)) ≡ Some ws → Parted k ys us parts bs ts f
     → Parted k (act (barrier args) ∷ ys) [] (us ∷ parts) (ws ∷ bs) ts f
 Parted-bar k args ws ys us parts bs ts f fine named s = record {
   fine = (fine, s.fine);
   here = [];
   later = s.here ∷ s.later;
-  cut = λ j. cut_by (named j) (bars (operands k args)) (s.cut j);
+  cut = λ j. cut_by (named j) (barrier_on (operands k args)) (s.cut j);
   first = refl;
   others = (s.first, s.others);
   ops = ap (followed (Ok [])) s.ops;
@@ -239,7 +239,7 @@ Parted-bar k args ws ys us parts bs ts f fine named s = record {
 }
 
 -- ---- what the gates do
-pub AreOperations-answers : (gates : List BoundGate) (parts : List (List Step)) (lists : List (List Op)) → meanings gates ≡ standard_meanings
+pub AreOperations-answers : (gates : List BoundGate) (parts : List (List BoundStep)) (lists : List (List Op)) → meanings gates ≡ standard_meanings
     → AreAnswers parts lists → AreOperations gates parts lists
 AreOperations-answers gates [] [] e h = tt
 AreOperations-answers gates [] (us ∷ lists) e h = h

@@ -24,20 +24,20 @@ use Rattle.qasm_parser.specs.Expressions.{SpellsSum}
 use Rattle.qasm_writer.specs.Words.{IsFreeWord}
 use Rattle.qasm_writer.proofs.WordLaws.{IsFreeWord-name}
 use Rattle.qasm_parser.specs.Parsing.{two}
-use Rattle.qasm_parser.specs.Spelling.{BehindComma, Seen, Form, SpellsArg, SpellsEach, SpellsForm, SpellsStatement, alone, first_deep, index_symbols, listed, seen, whole_symbol}
+use Rattle.qasm_parser.specs.Spelling.{BehindComma, SeenExpression, Form, SpellsArg, SpellsEach, SpellsForm, SpellsStatement, alone, first_deep, index_symbols, listed, seen, whole_symbol}
 use Rattle.qasm_parser.specs.Symbols.{Symbol, mark, mark_symbol, name, quoted, real, sign, symbol_by, unquoted, word, word_symbol}
 use Rattle.qasm_parser.specs.Tree.{Expression, Statement, act, include, measure, register}
 use Rattle.qasm_parser.specs.declared.symbols.Keyword.TheVariants.{OpenQasm, Include, Qreg, Creg, Measure, Barrier, Pi}
 use Rattle.qasm_parser.specs.declared.symbols.Mark.TheVariants.{Semicolon, Comma, Open, Close, OpenBracket, CloseBracket, Arrow}
 use Rattle.qasm_check.specs.declared.register.ClassicalRegister.{ClassicalRegister}
 use Rattle.program_parts.specs.Cuts.{Cut}
-use Rattle.gate_inline.specs.Registers.{AreRegisters, IsFree, IsRead}
+use Rattle.gate_inline.specs.Registers.{AreRegisters, IsFreeRegister, IsRead}
 use Rattle.gate_inline.specs.Programs.{IsTreeOf}
 use Rattle.unitary_model.specs.Operations.{IsPlain, WiresBelow}
 use Rattle.unitary_model.specs.declared.Op.{Op}
 use Rattle.unitary_model.specs.declared.Op.TheVariants.{U, Cx}
 use Rattle.qasm_writer.specs.Texts.{IsQubitsName, barrier_line, bits_line, index_text, op_line, part_lines, phase_text, read_line, read_lines, register_lines, wires_line, with_underscores, written_text}
-use Rattle.qasm_writer.specs.Trees.{applied, at, barrier_statement, bits_statement, eighths_angle, op_statement, part_statements, phase_statement, read_statements, register_statements, wires_statements, written_tree}
+use Rattle.qasm_writer.specs.Trees.{applied_gate, at, barrier_statement, bits_statement, eighths_angle, op_statement, part_statements, phase_statement, read_statements, register_statements, wires_statements, written_tree}
 use Rattle.trace_text.specs.Texts.{commented, ended, lines_of, trace_of}
 use Rattle.qasm_writer.proofs.SymbolLaws.{Gives, Gives-line, Gives-name, Gives-number, Gives-space, Gives-token}
 use Rattle.qasm_writer.proofs.CommentLaws.{AreUnbroken, Ends, Ends-end, Ends-index, Ends-then, Gives-commented, IsHeld, Silent, Silent-line, Silent-nil, Silent-then, is_opening, opening-word, trace-behind}
@@ -48,7 +48,7 @@ use Rattle.qasm_writer.proofs.StatementLaws.{IsNamed}
 -- ---- texts, one behind another
 pub record SpeltBefore (xs : List Statement) (text tail : Bytes) (rest : List Symbol) : Type 0 where
   pub ts : List Symbol
-  pub found : List Seen
+  pub found : List SeenExpression
   pub gives : Gives (text ++ tail) ts
   pub spells : SpellsEach SpellsStatement xs ts rest found
   pub shallow : first_deep 64 found ≡ None
@@ -63,15 +63,15 @@ Spelt-nil = record {
   silent = Silent-nil;
 }
 
-each-then : (xs ys : List Statement) (ts mid rest : List Symbol) (here later : List Seen) → SpellsEach SpellsStatement xs ts mid here
+each-then : (xs ys : List Statement) (ts mid rest : List Symbol) (here later : List SeenExpression) → SpellsEach SpellsStatement xs ts mid here
     → SpellsEach SpellsStatement ys mid rest later → SpellsEach SpellsStatement (xs ++ ys) ts rest (here ++ later)
 each-then [] ys ts mid rest here later h k =
     let moved = subst (λ (z : List Symbol). SpellsEach SpellsStatement ys z rest later) (sym h.0) k in
-    subst (λ (z : List Seen). SpellsEach SpellsStatement ys ts rest (z ++ later)) (sym h.1) moved
+    subst (λ (z : List SeenExpression). SpellsEach SpellsStatement ys ts rest (z ++ later)) (sym h.1) moved
 each-then (x ∷ xs) ys ts mid rest here later h k =
-    (h.0, h.1, h.2 ++ later, h.3, each-then xs ys h.0 mid rest h.2 later h.4 k, ap (λ (z : List Seen). z ++ later) h.5 ∙ append_assoc h.1 h.2 later)
+    (h.0, h.1, h.2 ++ later, h.3, each-then xs ys h.0 mid rest h.2 later h.4 k, ap (λ (z : List SeenExpression). z ++ later) h.5 ∙ append_assoc h.1 h.2 later)
 
-shallow-then : (here later : List Seen) → first_deep 64 here ≡ None → first_deep 64 later ≡ None → first_deep 64 (here ++ later) ≡ None
+shallow-then : (here later : List SeenExpression) → first_deep 64 here ≡ None → first_deep 64 later ≡ None → first_deep 64 (here ++ later) ≡ None
 shallow-then [] later h k = k
 shallow-then (s ∷ here) later h k = by_test (nat_le s.depth 64) (λ e. shallow-then here later e k) h
   where
@@ -95,7 +95,7 @@ Spelt-then xs ys s t h k = record {
   silent = Silent-then s t h.silent k.silent;
 }
 
-pub Spelt-line : (x : Statement) (text : Bytes) (ts : List Symbol → List Symbol) (found : List Symbol → List Seen)
+pub Spelt-line : (x : Statement) (text : Bytes) (ts : List Symbol → List Symbol) (found : List Symbol → List SeenExpression)
     → ((tail : Bytes) (rest : List Symbol) → Gives tail rest → Gives (text ++ tail) (ts rest))
     → ((rest : List Symbol) → SpellsStatement x (ts rest) rest (found rest)) → ((rest : List Symbol) → first_deep 64 (found rest) ≡ None)
     → Silent text → Spelt (x ∷ []) text
@@ -268,14 +268,14 @@ cx_spelt q c t h few less = Spelt-line (op_statement q (Cx c t)) (op_line q (Cx 
     (Ends-then (codes ",") (index_text q t ++ codes ";\n") refl (Ends-index q t (codes ";\n") h (omega arith) Ends-end))))
 
 -- a gate on one qubit, by the symbols of its name
-gate_spelt : (q gate text : Bytes) (i : ℕ) (angles : List Expression) (ts : List Symbol → List Symbol) (found : List Symbol → List Seen)
+gate_spelt : (q gate text : Bytes) (i : ℕ) (angles : List Expression) (ts : List Symbol → List Symbol) (found : List Symbol → List SeenExpression)
     → IsFreeWord q → i ≤ most_part → is_opening text ≡ true
     → ((t : Bytes) (ss : List Symbol) → Gives t ss → Gives (text ++ 32 ∷ t) (ts ss))
     → ((rest : List Symbol) → (form : Form) × SpellsForm form (record { gate = gate; angles = angles; args = at q i ∷ [] }) (ts rest) rest (found rest))
     → ((rest : List Symbol) → first_deep 64 (found rest) ≡ None)
-    → Spelt (applied gate angles (at q i ∷ []) ∷ []) (text ++ (codes " " ++ (index_text q i ++ codes ";\n")))
+    → Spelt (applied_gate gate angles (at q i ∷ []) ∷ []) (text ++ (codes " " ++ (index_text q i ++ codes ";\n")))
 gate_spelt q gate text i angles ts found h few opens gives form shallow =
-    Spelt-line (applied gate angles (at q i ∷ [])) (text ++ (codes " " ++ (index_text q i ++ codes ";\n")))
+    Spelt-line (applied_gate gate angles (at q i ∷ [])) (text ++ (codes " " ++ (index_text q i ++ codes ";\n")))
     (λ rest. ts (name q ∷ index_symbols (Some i) (mark Semicolon ∷ rest)))
     (λ rest. found (name q ∷ index_symbols (Some i) (mark Semicolon ∷ rest)))
     (λ tail rest g.
@@ -289,7 +289,7 @@ gate_spelt q gate text i angles ts found h few opens gives form shallow =
     (Ends-then (codes " ") (index_text q i ++ codes ";\n") refl (Ends-index q i (codes ";\n") h (omega arith) Ends-end)))
 
 plain_spelt : (q gate : Bytes) (i : ℕ) → IsFreeWord q → i ≤ most_part → IsFreeWord gate
-    → Spelt (applied gate [] (at q i ∷ []) ∷ []) (gate ++ (codes " " ++ (index_text q i ++ codes ";\n")))
+    → Spelt (applied_gate gate [] (at q i ∷ []) ∷ []) (gate ++ (codes " " ++ (index_text q i ++ codes ";\n")))
 plain_spelt q gate i h few named =
     gate_spelt q gate gate i [] (λ rest. name gate ∷ rest) (λ rest. []) h few (opening-word gate named)
     (λ t ss g. Gives-name gate 32 t ss named refl (Gives-space t ss g)) (λ rest. (alone, (refl, refl, refl))) (λ rest. refl)
@@ -329,7 +329,7 @@ angle_spelt k rest = record {
 -- k*pi/4 in parentheses is one angle, three deep
 eighths_spelt : (q text : Bytes) (i k : ℕ) → IsFreeWord q → i ≤ most_part → is_opening text ≡ true
     → ((t : Bytes) (ss : List Symbol) → Gives t ss → Gives (text ++ 32 ∷ t) (name (codes "u1") ∷ mark Open ∷ whole_symbol k ∷ sign Mul ∷ word Pi ∷ sign Div ∷ whole_symbol 4 ∷ mark Close ∷ ss))
-    → Spelt (applied (codes "u1") (eighths_angle k ∷ []) (at q i ∷ []) ∷ []) (text ++ (codes " " ++ (index_text q i ++ codes ";\n")))
+    → Spelt (applied_gate (codes "u1") (eighths_angle k ∷ []) (at q i ∷ []) ∷ []) (text ++ (codes " " ++ (index_text q i ++ codes ";\n")))
 eighths_spelt q text i k h few opens gives =
     gate_spelt q (codes "u1") text i (eighths_angle k ∷ [])
     (λ rest. name (codes "u1") ∷ mark Open ∷ whole_symbol k ∷ sign Mul ∷ word Pi ∷ sign Div ∷ whole_symbol 4 ∷ mark Close ∷ rest)
@@ -479,7 +479,7 @@ IsFreeWord-underscores (suc k) = record { word = all_words k; free = refl; no_fu
     all_words zero = refl
     all_words (suc k) = all_words k
 
-size-le-sum : (rs : List ClassicalRegister) → AllByRecursion IsFree rs → sum_by (λ r. r.size) rs ≤ 1024
+size-le-sum : (rs : List ClassicalRegister) → AllByRecursion IsFreeRegister rs → sum_by (λ r. r.size) rs ≤ 1024
     → AllByRecursion (λ r. IsFreeWord r.name × (r.size ≤ most_part)) rs
 size-le-sum [] h few = tt
 size-le-sum (r ∷ rs) h few =
@@ -490,7 +490,7 @@ size-le-sum (r ∷ rs) h few =
 abbrev pub HasTokens : Type 0
 HasTokens = (text : Bytes) (tokens : List Token) → lexed text ≡ Ok tokens → AreTokens text tokens
 
-tree_by : HasTokens → (text : Bytes) (xs : List Statement) (ts : List Symbol) (found : List Seen) → Gives text (word OpenQasm ∷ real two ∷ mark Semicolon ∷ ts)
+tree_by : HasTokens → (text : Bytes) (xs : List Statement) (ts : List Symbol) (found : List SeenExpression) → Gives text (word OpenQasm ∷ real two ∷ mark Semicolon ∷ ts)
     → SpellsEach SpellsStatement xs ts [] found → first_deep 64 found ≡ None → IsTreeOf text (record { version = two; list = xs })
 tree_by law text xs ts found g each shallow =
     let it = g.behind [] in (it.tokens, law text it.tokens it.lexed, (found, (ts, it.spelt, each), refl, shallow))
@@ -502,7 +502,7 @@ pub written_tree-spelt : HasTokens → AreUnbroken → IsHeld → (q : List ℕ)
     × (trace_of (written_text q n c rs reads ++ commented trace) ≡ ended (lines_of trace))
 written_tree-spelt law unbroken held q n bits c rs reads trace few spare registers able bars asked =
     let h : IsFreeWord q = subst IsFreeWord (sym spare.spelt) (IsFreeWord-underscores spare.underscores) in
-    let named = size-le-sum rs (recursion_from_All IsFree rs registers.each) (omega (arith, registers.all, registers.few)) in
+    let named = size-le-sum rs (recursion_from_All IsFreeRegister rs registers.each) (omega (arith, registers.all, registers.few)) in
     let reads' = recursion_from_All (IsRead n) reads asked in
     let all = Spelt-then (include (codes "qelib1.inc") ∷ []) _ (codes "include \"qelib1.inc\";\n") _ include_spelt
     (Spelt-then (wires_statements q n) _ (wires_line q n) _ (wires_spelt q n h few)

@@ -24,10 +24,10 @@ use Rattle.gate_library.specs.Library.{library, own_number, standard_names, tabl
 use Rattle.gate_library.specs.Names.{is_one_of}
 use Rattle.gate_library.specs.Operands.{broadcast, upto, wires_of, differs_from, measure_differs, repeats}
 use Rattle.qasm_check.specs.Arguments.{operand, operands}
-use Rattle.qasm_check.specs.Known.{Known, fresh, gate_number, meaning}
+use Rattle.qasm_check.specs.Known.{Known, nothing_known, gate_number, meaning}
 use Rattle.qasm_check.specs.Meanings.{is_past_end, is_other, names_register, operand_in}
-use Rattle.qasm_check.specs.Refusals.{IsFine, is_beyond, is_unknown, is_wrong, of_gate}
-use Rattle.qasm_check.specs.Steps.{applies, measures, bars, formula, measure_step, step}
+use Rattle.qasm_check.specs.Refusals.{IsUnrefused, is_beyond, is_unknown, is_wrong, of_gate}
+use Rattle.qasm_check.specs.Steps.{applies, measures, barrier_on, formula, measure_step, statement_step}
 use Rattle.qasm_check.specs.declared.meaning.Meaning.{Meaning}
 use Rattle.qasm_check.specs.declared.meaning.Meaning.TheVariants.{Gate as Numbered, Register}
 use Rattle.qasm_check.specs.declared.register.ClassicalRegister.{ClassicalRegister}
@@ -36,9 +36,9 @@ use Rattle.qasm_check.specs.declared.refusal.CheckRefusal.TheVariants.{NameTaken
 use Rattle.angle_fraction.specs.declared.Angle.{Angle}
 use Rattle.gate_inline.specs.Meanings.{Evaluation, broadcast_answer, followed, meaning_at, step_answer, unvalued}
 use Rattle.gate_inline.specs.Reads.{read_within}
-use Rattle.gate_inline.specs.Splits.{bar_of, if_some}
+use Rattle.gate_inline.specs.Splits.{barrier_wires, if_some}
 use Rattle.gate_inline.specs.Values.{and_next, values}
-use Rattle.qasm_writer.specs.Trees.{at, applied, barrier_statement, bits_statement}
+use Rattle.qasm_writer.specs.Trees.{at, applied_gate, barrier_statement, bits_statement}
 use Rattle.qasm_writer.proofs.RowLaws.{Row}
 use Rattle.qasm_writer.proofs.RunLaws.{Run, Run-one, Run-quiet, standard_meanings}
 
@@ -90,15 +90,15 @@ never : (xs : List (List ℕ)) → list_any (λ x. false) xs ≡ false
 never [] = refl
 never (x ∷ xs) = never xs
 
-include_fine : IsFine fresh (include (codes "qelib1.inc"))
+include_fine : IsUnrefused nothing_known (include (codes "qelib1.inc"))
 include_fine NameTaken = never standard_names
 include_fine _ = refl
 
-pub include_run : Run fresh (include (codes "qelib1.inc") ∷ []) [] [] (λ bit. None)
-include_run = Run-quiet fresh (include (codes "qelib1.inc")) None include_fine refl refl
+pub include_run : Run nothing_known (include (codes "qelib1.inc") ∷ []) [] [] (λ bit. None)
+include_run = Run-quiet nothing_known (include (codes "qelib1.inc")) None include_fine refl refl
 
 wires_fine : (k : Known) (q : List ℕ) (n : ℕ) → k.declared q ≡ None → is_one_of table_names q ≡ false → 0 < n → k.wires + n ≤ most_qubits
-    → IsFine k (register true q n)
+    → IsUnrefused k (register true q n)
 wires_fine k q n d t some few NameTaken = λ j. is_some (d j) || t j
 wires_fine k q n d t some few EmptyRegister = not_nought n some
 wires_fine k q n d t some few TooManyQubits = within most_qubits (k.wires + n) few
@@ -109,7 +109,7 @@ pub wires_run : (k : Known) (q : List ℕ) (n : ℕ) → k.declared q ≡ None �
 wires_run k q n d t some few = Run-quiet k (register true q n) None (wires_fine k q n d t some few) refl refl
 
 bits_fine : (k : Known) (name : List ℕ) (size : ℕ) → k.declared name ≡ None → is_one_of table_names name ≡ false → 0 < size
-    → k.bits + size ≤ 1024 → IsFine k (register false name size)
+    → k.bits + size ≤ 1024 → IsUnrefused k (register false name size)
 bits_fine k name size d t some few NameTaken = λ j. is_some (d j) || t j
 bits_fine k name size d t some few EmptyRegister = not_nought size some
 bits_fine k name size d t some few TooManyBits = within 1024 (k.bits + size) few
@@ -141,7 +141,7 @@ wire_placed : (k : Known) (q : List ℕ) (n w : ℕ) → IsReady k q n → w < n
 wire_placed k q n w h l = placed k q true 0 n w (h.qubits (some_wire w n l)) l
 
 one_fine : (k : Known) (q : List ℕ) (n w : ℕ) (name : List ℕ) (es : List Expression) (given : List Angle) → (r : Row name es 1 given)
-    → IsReady k q n → w < n → IsFine k (applied name es (at q w ∷ []))
+    → IsReady k q n → w < n → IsUnrefused k (applied_gate name es (at q w ∷ []))
 unfolding upto
 one_fine k q n w name es given r h l = go
   where
@@ -157,7 +157,7 @@ one_fine k q n w name es given r h l = go
     spots : operands k (at q w ∷ []) ≡ spot 0 n w ∷ []
     spots = ap (λ (o : Option Operand). cons_option o []) (wire_placed k q n w h l)
 
-    go : IsFine k (applied name es (at q w ∷ []))
+    go : IsUnrefused k (applied_gate name es (at q w ∷ []))
     go UnknownName = λ j. is_none (named j) || (is_none (wire j) || false) || r.closed j
     go WrongKind = λ j. names_register (named j) || (is_other true (wire j) || false)
     go IndexRange = (λ j. is_past_end (wire j) (Some w) || false) ∙ ap (λ (b : Bool). b || false) (not_over w n l)
@@ -174,7 +174,7 @@ one_fine k q n w name es given r h l = go
 
 -- a gate on the wires that its arguments name
 applied_step : (k : Known) (name : List ℕ) (es : List Expression) (args : List Arg) (i : ℕ) (ps : List Operand)
-    → meaning k name ≡ Some (Numbered i) → operands k args ≡ ps → step k (applied name es args) ≡ applies i (map (formula []) es) ps
+    → meaning k name ≡ Some (Numbered i) → operands k args ≡ ps → statement_step k (applied_gate name es args) ≡ applies i (map (formula []) es) ps
 applied_step k name es args i ps named spots = λ j. applies (gate_number (named j)) (map (formula []) es) (spots j)
 
 one_answer : (i : ℕ) (es : List Expression) (given : List Angle) (n w : ℕ) (us : List Op) → values [] (map (formula []) es) ≡ Ok given
@@ -188,9 +188,9 @@ one_answer i es given n w us exact means =
 
 pub one_run : (k : Known) (q : List ℕ) (n w : ℕ) (name : List ℕ) (es : List Expression) (given : List Angle) (op : Op) → (r : Row name es 1 given)
     → IsReady k q n → w < n → ◌≡◌ {A = Evaluation} (meaning_at standard_meanings r.number given (w ∷ [])) (Ok (op ∷ []))
-    → Run k (applied name es (at q w ∷ []) ∷ []) (op ∷ []) [] (λ bit. None)
+    → Run k (applied_gate name es (at q w ∷ []) ∷ []) (op ∷ []) [] (λ bit. None)
 one_run k q n w name es given op r h l means =
-    Run-one k (applied name es (at q w ∷ [])) (applies r.number (map (formula []) es) (spot 0 n w ∷ [])) (op ∷ []) None (λ bit. None)
+    Run-one k (applied_gate name es (at q w ∷ [])) (applies r.number (map (formula []) es) (spot 0 n w ∷ [])) (op ∷ []) None (λ bit. None)
     (one_fine k q n w name es given r h l)
     (applied_step k name es (at q w ∷ []) r.number (spot 0 n w ∷ []) (gate_named k q n name es 1 given r h)
     (ap (λ (o : Option Operand). cons_option o []) (wire_placed k q n w h l)))
@@ -198,7 +198,7 @@ one_run k q n w name es given op r h l means =
     refl (λ bit. refl) refl
 
 two_fine : (k : Known) (q : List ℕ) (n c t : ℕ) (name : List ℕ) (es : List Expression) (given : List Angle) → (r : Row name es 2 given)
-    → IsReady k q n → c < n → t < n → c ≢ t → IsFine k (applied name es (at q c ∷ at q t ∷ []))
+    → IsReady k q n → c < n → t < n → c ≢ t → IsUnrefused k (applied_gate name es (at q c ∷ at q t ∷ []))
 unfolding upto
 two_fine k q n c t name es given r h lc lt apart = go
   where
@@ -214,7 +214,7 @@ two_fine k q n c t name es given r h lc lt apart = go
     spots : operands k (at q c ∷ at q t ∷ []) ≡ spot 0 n c ∷ spot 0 n t ∷ []
     spots = λ j. cons_option (wire_placed k q n c h lc j) (cons_option (wire_placed k q n t h lt j) [])
 
-    go : IsFine k (applied name es (at q c ∷ at q t ∷ []))
+    go : IsUnrefused k (applied_gate name es (at q c ∷ at q t ∷ []))
     go UnknownName = λ j. is_none (named j) || (is_none (wire j) || (is_none (wire j) || false)) || r.closed j
     go WrongKind = λ j. names_register (named j) || (is_other true (wire j) || (is_other true (wire j) || false))
     go IndexRange = (λ j. is_past_end (wire j) (Some c) || (is_past_end (wire j) (Some t) || false))
@@ -241,9 +241,9 @@ two_answer i es given n c t us exact means =
 
 pub two_run : (k : Known) (q : List ℕ) (n c t : ℕ) (name : List ℕ) (es : List Expression) (given : List Angle) (op : Op) → (r : Row name es 2 given)
     → IsReady k q n → c < n → t < n → c ≢ t → ◌≡◌ {A = Evaluation} (meaning_at standard_meanings r.number given (c ∷ t ∷ [])) (Ok (op ∷ []))
-    → Run k (applied name es (at q c ∷ at q t ∷ []) ∷ []) (op ∷ []) [] (λ bit. None)
+    → Run k (applied_gate name es (at q c ∷ at q t ∷ []) ∷ []) (op ∷ []) [] (λ bit. None)
 two_run k q n c t name es given op r h lc lt apart means =
-    Run-one k (applied name es (at q c ∷ at q t ∷ [])) (applies r.number (map (formula []) es) (spot 0 n c ∷ spot 0 n t ∷ [])) (op ∷ []) None (λ bit. None)
+    Run-one k (applied_gate name es (at q c ∷ at q t ∷ [])) (applies r.number (map (formula []) es) (spot 0 n c ∷ spot 0 n t ∷ [])) (op ∷ []) None (λ bit. None)
     (two_fine k q n c t name es given r h lc lt apart)
     (applied_step k name es (at q c ∷ at q t ∷ []) r.number (spot 0 n c ∷ spot 0 n t ∷ []) (gate_named k q n name es 2 given r h)
     (λ j. cons_option (wire_placed k q n c h lc j) (cons_option (wire_placed k q n t h lt j) [])))
@@ -252,7 +252,7 @@ two_run k q n c t name es given op r h lc lt apart means =
 
 -- ---- measurements
 measure_fine : (k : Known) (q : List ℕ) (n w : ℕ) (name : List ℕ) (first size i : ℕ) → k.declared q ≡ Some (wires_register n)
-    → k.declared name ≡ Some (bits_register first size) → w < n → i < size → IsFine k (act (measure (at q w) (at name i)))
+    → k.declared name ≡ Some (bits_register first size) → w < n → i < size → IsUnrefused k (act (measure (at q w) (at name i)))
 measure_fine k q n w name first size i dq dn lw li = go
   where
     wire : meaning k q ≡ Some (wires_register n)
@@ -261,7 +261,7 @@ measure_fine k q n w name first size i dq dn lw li = go
     bit : meaning k name ≡ Some (bits_register first size)
     bit = meaning-declared k name (bits_register first size) dn
 
-    go : IsFine k (act (measure (at q w) (at name i)))
+    go : IsUnrefused k (act (measure (at q w) (at name i)))
     go UnknownName = λ j. is_none (wire j) || is_none (bit j)
     go WrongKind = λ j. is_other true (wire j) || is_other false (bit j)
     go IndexRange = (λ j. is_past_end (wire j) (Some w) || is_past_end (bit j) (Some i)) ∙ (λ j. not_over w n lw j || not_over i size li j)
@@ -295,10 +295,10 @@ none_passes : (test : Arg → Bool) (q : List ℕ) (n : ℕ) (is : List ℕ) →
 none_passes test q n [] each l = refl
 none_passes test q n (w ∷ is) each l = λ j. each w l.0 j || none_passes test q n is each l.1 j
 
-pub barrier_fine : (k : Known) (q : List ℕ) (n : ℕ) (is : List ℕ) → IsReady k q n → AllByRecursion (λ w. w < n) is → IsFine k (barrier_statement q is)
+pub barrier_fine : (k : Known) (q : List ℕ) (n : ℕ) (is : List ℕ) → IsReady k q n → AllByRecursion (λ w. w < n) is → IsUnrefused k (barrier_statement q is)
 barrier_fine k q n is h l = go
   where
-    go : IsFine k (barrier_statement q is)
+    go : IsUnrefused k (barrier_statement q is)
     go UnknownName = none_passes (is_unknown k) q n is (λ w m. ap is_none (wire_known k q n w h m)) l
     go WrongKind = none_passes (is_wrong k true) q n is (λ w m. ap (is_other true) (wire_known k q n w h m)) l
     go IndexRange = none_passes (is_beyond k) q n is
@@ -320,6 +320,6 @@ some_wires [] some = absurd (some refl)
 some_wires (w ∷ is) some = refl
 
 pub barrier_named : (k : Known) (q : List ℕ) (n : ℕ) (is : List ℕ) → IsReady k q n → IsNamed n is
-    → bar_of (bars (operands k (map (at q) is))) ≡ Some is
+    → barrier_wires (barrier_on (operands k (map (at q) is))) ≡ Some is
 barrier_named k q n is h l =
     ap (λ (ps : List Operand). if_some (flat_map wires_of ps)) (bar_operands k q n is h l.1) ∙ ap if_some (bar_wires n is) ∙ some_wires is l.0

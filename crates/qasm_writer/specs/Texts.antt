@@ -20,7 +20,7 @@ use Rattle.std.specs.List.{flat_map}
 use Rattle.std.specs.Fmt.{decimal}
 use Rattle.gate_library.specs.Names.{is_one_of}
 use Rattle.qasm_check.specs.declared.register.ClassicalRegister.{ClassicalRegister}
-use Rattle.gate_inline.specs.Registers.{names_of}
+use Rattle.gate_inline.specs.Registers.{register_names}
 use Rattle.program_parts.specs.Cuts.{Cut}
 use Rattle.unitary_model.specs.declared.Op.{Op}
 use Rattle.unitary_model.specs.declared.Op.TheVariants.{U, Cx}
@@ -31,8 +31,8 @@ with_underscores k = codes "q" ++ replicate k 95
 pub record IsQubitsName (rs : List ClassicalRegister) (q : List ℕ) : Type 0 where
   pub underscores : ℕ
   pub spelt : q ≡ with_underscores underscores
-  pub spare : is_one_of (names_of rs) q ≡ false
-  pub least : (k : ℕ) → k < underscores → is_one_of (names_of rs) (with_underscores k) ≡ true
+  pub spare : is_one_of (register_names rs) q ≡ false
+  pub least : (k : ℕ) → k < underscores → is_one_of (register_names rs) (with_underscores k) ≡ true
 
 abbrev pub phase_text : ℕ → List ℕ
 phase_text k =

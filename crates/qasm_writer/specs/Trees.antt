@@ -1,6 +1,6 @@
 -- Working form. The tree of a written text.
 --   at name i            name[i], as an argument
---   applied name es as   the application of the gate of this name
+--   applied_gate name es as  the application of the gate of this name
 --   eighths_angle k      k*pi/4
 --   phase_statement, u_statement, op_statement   the statement of a phase, of U(a,0,c), of an operation on the register q
 --   barrier_statement    that of a barrier on these qubits
@@ -24,8 +24,8 @@ use Rattle.unitary_model.specs.declared.Op.TheVariants.{U, Cx}
 abbrev pub at : List ℕ → ℕ → Arg
 at name i = record { name = name; index = Some i }
 
-abbrev pub applied : List ℕ → List Expression → List Arg → Statement
-applied gate angles args = act (apply (record { gate = gate; angles = angles; args = args }))
+abbrev pub applied_gate : List ℕ → List Expression → List Arg → Statement
+applied_gate gate angles args = act (apply (record { gate = gate; angles = angles; args = args }))
 
 -- k*pi/4
 abbrev pub eighths_angle : ℕ → Expression
@@ -33,21 +33,21 @@ eighths_angle k = binary Div (binary Mul (number (fraction (pos k) 1)) pi) (numb
 
 abbrev pub phase_statement : ℕ → Arg → Statement
 phase_statement k at =
-    if k == 1 then applied (codes "t") [] (at ∷ [])
-    else (if k == 2 then applied (codes "s") [] (at ∷ [])
-    else (if k == 3 then applied (codes "u1") (eighths_angle 3 ∷ []) (at ∷ [])
-    else (if k == 4 then applied (codes "z") [] (at ∷ [])
-    else (if k == 5 then applied (codes "u1") (eighths_angle 5 ∷ []) (at ∷ [])
-    else (if k == 6 then applied (codes "sdg") [] (at ∷ []) else applied (codes "tdg") [] (at ∷ []))))))
+    if k == 1 then applied_gate (codes "t") [] (at ∷ [])
+    else (if k == 2 then applied_gate (codes "s") [] (at ∷ [])
+    else (if k == 3 then applied_gate (codes "u1") (eighths_angle 3 ∷ []) (at ∷ [])
+    else (if k == 4 then applied_gate (codes "z") [] (at ∷ [])
+    else (if k == 5 then applied_gate (codes "u1") (eighths_angle 5 ∷ []) (at ∷ [])
+    else (if k == 6 then applied_gate (codes "sdg") [] (at ∷ []) else applied_gate (codes "tdg") [] (at ∷ []))))))
 
 abbrev pub u_statement : ℕ → ℕ → Arg → Statement
 u_statement a c at =
-    if a == 2 then applied (codes "h") [] (at ∷ [])
-    else (if a == 4 then applied (codes "x") [] (at ∷ []) else phase_statement c at)
+    if a == 2 then applied_gate (codes "h") [] (at ∷ [])
+    else (if a == 4 then applied_gate (codes "x") [] (at ∷ []) else phase_statement c at)
 
 abbrev pub op_statement : List ℕ → Op → Statement
 op_statement q (U a b c i) = u_statement a c (at q i)
-op_statement q (Cx c t) = applied (codes "cx") [] (at q c ∷ at q t ∷ [])
+op_statement q (Cx c t) = applied_gate (codes "cx") [] (at q c ∷ at q t ∷ [])
 
 abbrev pub barrier_statement : List ℕ → List ℕ → Statement
 barrier_statement q is = act (barrier (map (at q) is))

@@ -16,7 +16,7 @@ ghost use Rattle.gate_inline.specs.Programs.{IsWritten};
 ghost use Rattle.trace_text.specs.Texts.{ended, lines_of, trace_of};
 ghost use Rattle.outside_io.specs.Bytes.{Gains, GainsPrefix};
 ghost use Rattle.outside_io.specs.Causes.{HasCause};
-ghost use Rattle.qasm_writer.specs.Outputs.{HasText, IsOutput, IsText, bits_of, program_of};
+ghost use Rattle.qasm_writer.specs.Outputs.{HasText, IsOutput, IsText, register_bits, program_of};
 ghost use Rattle.qasm_writer.specs.Texts.{IsQubitsName, with_underscores};
 
 use growing::Growing;
@@ -50,7 +50,7 @@ fn longest(registers: &[Register]) -> usize
 /// name.
 #[tactic(auto, using(crate::proofs::NameLaws::names))]
 fn underscores(registers: &[Register]) -> usize
-    ensures { IsQubitsName (map bits_of registers.now) (with_underscores result) }
+    ensures { IsQubitsName (map register_bits registers.now) (with_underscores result) }
 {
     let most = longest(registers);
     'names: for count in 0..most {

@@ -6,7 +6,7 @@ ghost use Rattle.circuit_list.specs.Gates.{op_of, ops};
 ghost use Rattle.outside_io.specs.Bytes.{GainsPrefix};
 ghost use Rattle.outside_io.specs.Causes.{HasCause};
 ghost use Rattle.trace_text.specs.Texts.{commented};
-ghost use Rattle.qasm_writer.specs.Outputs.{bits_of, cut_of};
+ghost use Rattle.qasm_writer.specs.Outputs.{register_bits, output_cut};
 ghost use Rattle.qasm_writer.specs.Pieces.{Sends};
 ghost use Rattle.qasm_writer.specs.Texts.{barrier_line, bits_line, index_text, listed, op_line, part_lines, phase_text, read_line, read_lines, register_lines, wires_line, with_underscores, written_text};
 
@@ -192,8 +192,8 @@ fn put_register<S: Sink>(
     sink: &mut S,
     register: Register,
 ) -> Result<(), Failed>
-    ensures ok { OnOk result (Sends (S.held sink.old) buffer.old (S.held sink.new) buffer.new (bits_line (bits_of register.entry))) }
-    ensures err { OnErr result (GainsPrefix (S.held sink.old) (S.held sink.new) (buffer.old ++ bits_line (bits_of register.entry))) }
+    ensures ok { OnOk result (Sends (S.held sink.old) buffer.old (S.held sink.new) buffer.new (bits_line (register_bits register.entry))) }
+    ensures err { OnErr result (GainsPrefix (S.held sink.old) (S.held sink.new) (buffer.old ++ bits_line (register_bits register.entry))) }
     ensures cause { HasCause (S.faults sink.old) (S.faults sink.new) result }
 {
     put(buffer, sink, "creg ")?;
@@ -247,8 +247,8 @@ fn put_registers<S: Sink>(
     sink: &mut S,
     registers: &[Register],
 ) -> Result<(), Failed>
-    ensures ok { OnOk result (Sends (S.held sink.old) buffer.old (S.held sink.new) buffer.new (flat_map bits_line (map bits_of registers.now))) }
-    ensures err { OnErr result (GainsPrefix (S.held sink.old) (S.held sink.new) (buffer.old ++ flat_map bits_line (map bits_of registers.now))) }
+    ensures ok { OnOk result (Sends (S.held sink.old) buffer.old (S.held sink.new) buffer.new (flat_map bits_line (map register_bits registers.now))) }
+    ensures err { OnErr result (GainsPrefix (S.held sink.old) (S.held sink.new) (buffer.old ++ flat_map bits_line (map register_bits registers.now))) }
     ensures cause { HasCause (S.faults sink.old) (S.faults sink.new) result }
 {
     'registers: for i in 0..registers.len() {
@@ -386,8 +386,8 @@ fn put_parts<S: Sink>(
 ) -> Result<(), Failed>
     requires lengths { sum_by (λ n. n) output.now.lengths.now ≡ length output.now.body.now.gates }
     requires cut { length output.now.lengths.now ≡ length output.now.barriers.now + 1 }
-    ensures ok { OnOk result (Sends (S.held sink.old) buffer.old (S.held sink.new) buffer.new (part_lines (with_underscores q) (cut_of output.now).parts (cut_of output.now).bars)) }
-    ensures err { OnErr result (GainsPrefix (S.held sink.old) (S.held sink.new) (buffer.old ++ part_lines (with_underscores q) (cut_of output.now).parts (cut_of output.now).bars)) }
+    ensures ok { OnOk result (Sends (S.held sink.old) buffer.old (S.held sink.new) buffer.new (part_lines (with_underscores q) (output_cut output.now).parts (output_cut output.now).bars)) }
+    ensures err { OnErr result (GainsPrefix (S.held sink.old) (S.held sink.new) (buffer.old ++ part_lines (with_underscores q) (output_cut output.now).parts (output_cut output.now).bars)) }
     ensures cause { HasCause (S.faults sink.old) (S.faults sink.new) result }
 {
     let end = output.body.len();
@@ -433,9 +433,9 @@ fn put_reads<S: Sink>(
     registers: &[Register],
     reads: &[Option<u32>],
 ) -> Result<(), Failed>
-    requires reads { sum_by (λ r. r.size) (map bits_of registers.now) ≤ length reads.now }
-    ensures ok { OnOk result (Sends (S.held sink.old) buffer.old (S.held sink.new) buffer.new (read_lines (with_underscores q) (map bits_of registers.now) reads.now)) }
-    ensures err { OnErr result (GainsPrefix (S.held sink.old) (S.held sink.new) (buffer.old ++ read_lines (with_underscores q) (map bits_of registers.now) reads.now)) }
+    requires reads { sum_by (λ r. r.size) (map register_bits registers.now) ≤ length reads.now }
+    ensures ok { OnOk result (Sends (S.held sink.old) buffer.old (S.held sink.new) buffer.new (read_lines (with_underscores q) (map register_bits registers.now) reads.now)) }
+    ensures err { OnErr result (GainsPrefix (S.held sink.old) (S.held sink.new) (buffer.old ++ read_lines (with_underscores q) (map register_bits registers.now) reads.now)) }
     ensures cause { HasCause (S.faults sink.old) (S.faults sink.new) result }
 {
     let mut rest = reads;
@@ -458,9 +458,9 @@ fn put_program<S: Sink>(
 ) -> Result<(), Failed>
     requires lengths { sum_by (λ n. n) output.now.lengths.now ≡ length output.now.body.now.gates }
     requires cut { length output.now.lengths.now ≡ length output.now.barriers.now + 1 }
-    requires reads { sum_by (λ r. r.size) (map bits_of output.now.registers.now) ≤ length output.now.reads.now }
-    ensures ok { OnOk result (Sends (S.held sink.old) buffer.old (S.held sink.new) buffer.new (written_text (with_underscores q) wires (cut_of output.now) (map bits_of output.now.registers.now) output.now.reads.now)) }
-    ensures err { OnErr result (GainsPrefix (S.held sink.old) (S.held sink.new) (buffer.old ++ written_text (with_underscores q) wires (cut_of output.now) (map bits_of output.now.registers.now) output.now.reads.now)) }
+    requires reads { sum_by (λ r. r.size) (map register_bits output.now.registers.now) ≤ length output.now.reads.now }
+    ensures ok { OnOk result (Sends (S.held sink.old) buffer.old (S.held sink.new) buffer.new (written_text (with_underscores q) wires (output_cut output.now) (map register_bits output.now.registers.now) output.now.reads.now)) }
+    ensures err { OnErr result (GainsPrefix (S.held sink.old) (S.held sink.new) (buffer.old ++ written_text (with_underscores q) wires (output_cut output.now) (map register_bits output.now.registers.now) output.now.reads.now)) }
     ensures cause { HasCause (S.faults sink.old) (S.faults sink.new) result }
 {
     put(buffer, sink, "OPENQASM 2.0;\ninclude \"qelib1.inc\";\n")?;
@@ -507,9 +507,9 @@ pub fn put_lines<S: Sink>(
 ) -> Result<(), Failed>
     requires lengths { sum_by (λ n. n) output.now.lengths.now ≡ length output.now.body.now.gates }
     requires cut { length output.now.lengths.now ≡ length output.now.barriers.now + 1 }
-    requires reads { sum_by (λ r. r.size) (map bits_of output.now.registers.now) ≤ length output.now.reads.now }
-    ensures ok { OnOk result (Sends (S.held sink.old) buffer.old (S.held sink.new) buffer.new (written_text (with_underscores q) wires (cut_of output.now) (map bits_of output.now.registers.now) output.now.reads.now ++ commented output.now.trace.now)) }
-    ensures err { OnErr result (GainsPrefix (S.held sink.old) (S.held sink.new) (buffer.old ++ (written_text (with_underscores q) wires (cut_of output.now) (map bits_of output.now.registers.now) output.now.reads.now ++ commented output.now.trace.now))) }
+    requires reads { sum_by (λ r. r.size) (map register_bits output.now.registers.now) ≤ length output.now.reads.now }
+    ensures ok { OnOk result (Sends (S.held sink.old) buffer.old (S.held sink.new) buffer.new (written_text (with_underscores q) wires (output_cut output.now) (map register_bits output.now.registers.now) output.now.reads.now ++ commented output.now.trace.now)) }
+    ensures err { OnErr result (GainsPrefix (S.held sink.old) (S.held sink.new) (buffer.old ++ (written_text (with_underscores q) wires (output_cut output.now) (map register_bits output.now.registers.now) output.now.reads.now ++ commented output.now.trace.now))) }
     ensures cause { HasCause (S.faults sink.old) (S.faults sink.new) result }
 {
     put_program(output, q, wires, buffer, line, sink)?;

@@ -3,7 +3,7 @@
 ghost use Rattle.std.specs.Prelude.{◌≡◌, ◌≤◌, ◌<◌, ◌++◌, [], IfOk, OnErr, OnOk, decimal, length, vec_capacity};
 ghost use Rattle.outside_io.specs.Bytes.{Gains, GainsPrefix};
 ghost use Rattle.outside_io.specs.Causes.{HasCause};
-ghost use Rattle.qasm_writer.specs.Pieces.{HasRoom, Sends};
+ghost use Rattle.qasm_writer.specs.Pieces.{HasPieceRoom, Sends};
 
 use itoa::Buffer;
 use outside_io::{Failed, Sink, write_all};
@@ -22,13 +22,13 @@ pub struct PieceBuffer {
 
 impl Model for PieceBuffer {
     ghost use Rattle.std.specs.Prelude.{List, ℕ};
-    ghost use Rattle.qasm_writer.specs.Pieces.{HasRoom};
+    ghost use Rattle.qasm_writer.specs.Pieces.{HasPieceRoom};
 
     ghost Value = { List ℕ };
 
     ghost view = { λ b. b.bytes.items };
 
-    ghost invariant = { λ b. HasRoom b.bytes };
+    ghost invariant = { λ b. HasPieceRoom b.bytes };
 }
 
 impl PieceBuffer {
@@ -57,7 +57,7 @@ impl PieceBuffer {
 
 /// Puts as many first bytes behind those that wait as make a piece, and gives the others.
 fn fill<'a>(waiting: &mut Vec<u8>, bytes: &'a [u8]) -> &'a [u8]
-    requires { HasRoom waiting.old }
+    requires { HasPieceRoom waiting.old }
     ensures bytes { waiting.old.items ++ bytes.now ≡ waiting.new.items ++ result.now }
     ensures bound { length waiting.new.items ≤ 4096 }
     ensures all { length waiting.new.items < 4096 → result.now ≡ [] }

@@ -7,7 +7,7 @@ use Rattle.outside_io.specs.Shelf.{IsTextCause, TellsText}
 use Rattle.outside_io.specs.declared.TextFault.{TextFault}
 use Rattle.outside_io.specs.declared.TextFault.TheVariants as text_fault
 use Rattle.coupling_map.specs.Coupling.{Coupling}
-use Rattle.coupling_map.specs.Text.{Outcome, Says, edge_cost, graph, outcome_of, range, self_edge, shape}
+use Rattle.coupling_map.specs.Text.{TableOutcome, Says, edge_cost, graph, outcome_of, range, self_edge, shape}
 use Rattle.coupling_map.specs.Walks.{IsJoined}
 use Rattle.coupling_map.specs.declared.faults.DeviceFault.TheVariants as fault
 use Rattle.qroute_top.specs.Causes.{IsDeviceCause}
@@ -19,7 +19,7 @@ use Rattle.qroute_top.specs.declared.stops.DeviceStop.TheVariants as device_stop
 use Rattle.qroute_top.specs.Stops.{IsUndescribed, unloaded}
 
 -- a text says one thing
-pub Says-once : (text : List ℕ) (o p : Outcome) → Says text o → Says text p → o ≡ p
+pub Says-once : (text : List ℕ) (o p : TableOutcome) → Says text o → Says text p → o ≡ p
 Says-once text o p (t, is, e) (u, too, f) =
     let same : t ≡ u = some_same t u (sym is.read ∙ too.read) in
     sym e ∙ ap outcome_of same ∙ f
@@ -27,21 +27,21 @@ Says-once text o p (t, is, e) (u, too, f) =
     some_same : {X : Type 0} (x y : X) → Some x ≡ Some y → x ≡ y
     some_same x y e = cc
 
-abbrev pub size_said : Outcome → ℕ
+abbrev pub size_said : TableOutcome → ℕ
 size_said (graph n es cs) = n
 size_said shape = 0
 size_said range = 0
 size_said (self_edge q) = 0
 size_said (edge_cost from to) = 0
 
-abbrev pub edges_said : Outcome → List (ℕ × ℕ)
+abbrev pub edges_said : TableOutcome → List (ℕ × ℕ)
 edges_said (graph n es cs) = es
 edges_said shape = []
 edges_said range = []
 edges_said (self_edge q) = []
 edges_said (edge_cost from to) = []
 
-abbrev pub device_said : Outcome → Coupling
+abbrev pub device_said : TableOutcome → Coupling
 device_said (graph n es cs) = record { size = n; edges = es; costs = cs }
 device_said shape = record { size = 0; edges = []; costs = None }
 device_said range = record { size = 0; edges = []; costs = None }

@@ -19,7 +19,7 @@ use Rattle.qasm_check.specs.declared.refusal.CheckRefusal.{CheckRefusal}
 use Rattle.qasm_check.specs.declared.refusal.CheckRefusal.TheVariants as check
 use Rattle.gate_inline.specs.declared.refusal.InlineRefusal.{InlineRefusal}
 use Rattle.gate_inline.specs.declared.refusal.InlineRefusal.TheVariants as inline
-use Rattle.gate_inline.specs.Inlined.{code as inline_code}
+use Rattle.gate_inline.specs.Inlined.{inline_code}
 use Rattle.qasm_check.specs.Refusals.{code as check_code}
 use Rattle.route_report.specs.Faults.{status_of}
 use Rattle.route_report.specs.Refusals.{stops_with}

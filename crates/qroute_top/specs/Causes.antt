@@ -25,7 +25,7 @@ use Rattle.route_report.specs.declared.faults.Side.{Side}
 use Rattle.route_report.specs.declared.faults.Fault.{Fault}
 use Rattle.route_report.specs.declared.faults.Fault.TheVariants as fault
 use Rattle.route_report.specs.Faults.{fault_line, status_of}
-use Rattle.gate_inline.specs.Inlined.{code as inline_code}
+use Rattle.gate_inline.specs.Inlined.{inline_code}
 use Rattle.gate_inline.specs.Programs.{IsAccepted, Program}
 use Rattle.qasm_check.specs.Refusals.{code as check_code}
 use Rattle.program_reader.specs.Refusals.{IsRefusal}

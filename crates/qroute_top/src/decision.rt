@@ -17,7 +17,7 @@ use crate::question::entry_answer;
 use crate::source::{drawn_source, read_source};
 use crate::start::starts_of;
 use crate::stops::Stop;
-use circuit_target::Wishes;
+use circuit_target::RouteOptions;
 use command_line::commands::{Begin, Command, WordsFault};
 use command_line::words::command;
 use outside_io::{Shelf, Source as Input};
@@ -98,7 +98,7 @@ pub fn decide<I: Input, F: Shelf>(
             let source = read_source(alloc, input, keep_barriers)?;
             let device = load_device(alloc, shelf, &name, source.wires(), &begin)?;
             let starts = starts_of(alloc, &begin, device.size())?;
-            let wishes = Wishes {
+            let wishes = RouteOptions {
                 trace,
                 keep: keep_barriers,
                 clean,
@@ -116,7 +116,7 @@ pub fn decide<I: Input, F: Shelf>(
             device.facts();
             let source = drawn_source(alloc, start, gates, device.size())?;
             let starts = Starts::Tries(1);
-            let wishes = Wishes {
+            let wishes = RouteOptions {
                 trace: false,
                 keep: false,
                 clean: false,

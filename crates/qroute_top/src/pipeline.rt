@@ -16,7 +16,7 @@ use crate::question::spares_refusal;
 use crate::spared::on_spares;
 use crate::stops::QuestionStop;
 use circuit_list::Circuit;
-use circuit_target::{PartedProgram, RunTraces, Wishes, in_place, routed};
+use circuit_target::{PartedProgram, RouteOptions, RunTraces, in_place, routed};
 use coupling_map::Device;
 use program_reader::SourceProgram;
 use rewrite_pass::Trace;
@@ -103,7 +103,7 @@ pub fn route_on(
     source: SourceProgram,
     device: &Device,
     starts: Starts,
-    wishes: Wishes,
+    wishes: RouteOptions,
 ) -> Result<Answer, AllocError>
     requires fits { source.wires ≤ device.now.size }
     requires starts { AreStarts device.now.size starts }

@@ -3,7 +3,7 @@
 ghost use Rattle.std.specs.Prelude.{◌≡◌, ℕ, List, All, IfOk, length, map, false, true, []};
 ghost use Rattle.gate_inline.specs.Registers.{IsRead};
 ghost use Rattle.program_parts.specs.Cuts.{uncut};
-ghost use Rattle.qasm_writer.specs.Outputs.{bits_of};
+ghost use Rattle.qasm_writer.specs.Outputs.{register_bits};
 ghost use Rattle.route_report.specs.Lines.{check_line};
 ghost use Rattle.qroute_top.specs.Causes.{output_fault_line};
 ghost use Rattle.qroute_top.specs.Delivered.{IsStages, counts_of};
@@ -83,7 +83,7 @@ fn registers_of<'a>(
     alloc: Global,
     bits: &'a [ClassicalRegister],
 ) -> Result<Vec<Register<'a>>, AllocError>
-    ensures { IfOk result (λ v. map bits_of v.items ≡ bits.now) }
+    ensures { IfOk result (λ v. map register_bits v.items ≡ bits.now) }
 {
     let mut registers = Vec::new(alloc);
     'registers: for it in bits {
@@ -160,7 +160,7 @@ pub fn prepare<'a>(
     target: &Target,
 ) -> Result<Prepared<'a>, AllocError>
     requires fit { IsFit source.now target.now }
-    ensures registers { IfOk result (λ p. map bits_of p.registers.items ≡ source.now.registers) }
+    ensures registers { IfOk result (λ p. map register_bits p.registers.items ≡ source.now.registers) }
     ensures reads { IfOk result (λ p. p.reads.items ≡ map (placed_read target.now.last) source.now.reads) }
     ensures there { IfOk result (λ p. All (IsRead target.now.body.wires) p.reads.items) }
     ensures line { IfOk result (λ p. TellsReport source.now target.now p.line.items) }

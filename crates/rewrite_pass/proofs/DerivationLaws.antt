@@ -11,7 +11,7 @@ use Rattle.path_parity.specs.NamedSums.{SamePathSum}
 use Rattle.rewrite_pass.specs.Law.{IsRewriting}
 use Rattle.rewrite_pass.specs.Traces.{Step, AreSteps, constants_turn}
 use Rattle.rewrite_pass.specs.TraceOf.{IsTraced}
-use Rattle.rewrite_pass.specs.Derivations.{Derivation, IsContinued, IsDerivation, IsStepped, IsReplaced, HasNoMore}
+use Rattle.rewrite_pass.specs.Derivations.{Derivation, IsContinued, IsDerivation, IsStepped, IsReplacedBy, HasNoMore}
 use Rattle.rewrite_pass.proofs.RewritingLaws.{IsRewriting_trans}
 use Rattle.rewrite_pass.proofs.TracedLaws.{AreSteps-append, IsTraced_refl, IsTraced_step, IsTraced_sums}
 use Rattle.rewrite_pass.proofs.TraceLaws.{sums_kept}
@@ -53,7 +53,7 @@ sums_made n old new t fine fine' same e more =
     record { below = k.below; same = k.same; t_gates = more.t_gates; odd_paths = more.odd_paths; cx_gates = more.cx_gates }
 
 pub derivation_replaced : (x y : Derivation) (b : Body) (t : ℕ) → IsDerivation x → All (IsFine x.body.wires) x.body.gates → All (IsFine b.wires) b.gates → b.wires ≡ x.body.wires →
-    SamePathSum x.body.wires x.body.gates b.gates → t ≡ constants_turn x.body.wires x.body.gates b.gates → HasNoMore x.body.wires x.body.gates b.gates → IsReplaced t x b y → IsDerivation y
+    SamePathSum x.body.wires x.body.gates b.gates → t ≡ constants_turn x.body.wires x.body.gates b.gates → HasNoMore x.body.wires x.body.gates b.gates → IsReplacedBy t x b y → IsDerivation y
 derivation_replaced x y b t d fine fine' wires same e more r =
     let n = x.body.wires in
     let fine2 : All (IsFine n) b.gates = subst (λ m. All (IsFine m) b.gates) wires fine' in

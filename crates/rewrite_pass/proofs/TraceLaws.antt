@@ -23,11 +23,11 @@ use Rattle.unitary_model.specs.SameUpTo.{SameUpTo}
 use Rattle.unitary_model.proofs.AmplitudeLaws.{SameUpTo_refl, SameUpTo_trans}
 use Rattle.rewrite_pass.specs.declared.rule.Edit.{Edit}
 use Rattle.rewrite_pass.specs.declared.rule.Change.{Change}
-use Rattle.rewrite_pass.specs.Edits.{taken, placed, put_at, instead, changed, changed_from}
+use Rattle.rewrite_pass.specs.Edits.{removing, putting, put_at, instead, changed, changed_from}
 use Rattle.rewrite_pass.specs.Law.{IsRewriting}
-use Rattle.rewrite_pass.specs.Windows.{At, IsTurned, IsConjugated, IsSurrounded, IsWindow, HadSHad, HadSdgHad, HadZHad, HadXHad, FourHads, SCxSdg, SdgCxS}
-use Rattle.rewrite_pass.specs.WindowPlaces.{Quiet, Others, IsTurnedAt, IsConjugatedAt, IsSurroundedAt, three_edits, surrounded_change, conjugated_change}
-use Rattle.rewrite_pass.specs.Traces.{Step, Rule, Both, Join, Sums, edited, edits_of, rule_of, turn_of, constants_turn, IsRuleStep, IsBothStep, IsJoinStep, IsSumsStep, IsStep, AreSteps}
+use Rattle.rewrite_pass.specs.Windows.{At, IsAroundOne, IsConjugated, IsSurrounded, IsWindow, HadSHad, HadSdgHad, HadZHad, HadXHad, FourHads, SCxSdg, SdgCxS}
+use Rattle.rewrite_pass.specs.WindowPlaces.{Quiet, Others, IsAroundOneAt, IsConjugatedAt, IsSurroundedAt, three_edits, surrounded_change, conjugated_change}
+use Rattle.rewrite_pass.specs.Traces.{Step, Rule, Both, Join, Sums, edited, edits_of, rule_of, window_turn, constants_turn, IsRuleStep, IsBothStep, IsJoinStep, IsSumsStep, IsStep, AreSteps}
 use Rattle.rewrite_pass.proofs.EditLaws.{changed_fine}
 use Rattle.rewrite_pass.proofs.PieceLaws.{Lawful}
 use Rattle.rewrite_pass.proofs.RewritingLaws.{Step-IsRewriting}
@@ -50,7 +50,7 @@ pub changed_alike : (c d : Change) (i : ℕ) (gs : List Gate) → ((k : ℕ) →
 changed_alike c d i [] h = refl
 changed_alike c d i (g ∷ gs) h = λ z. instead (h i z) g ++ changed_alike c d (i + 1) gs h z
 
-pub rule_step : (gs : List Gate) (i : ℕ) (c : Change) (w : IsWindow gs i) → ((k : ℕ) → put_at c.edits c.count k ≡ put_at (edits_of gs i w) (length (edits_of gs i w)) k) → c.turn ≡ turn_of gs i w
+pub rule_step : (gs : List Gate) (i : ℕ) (c : Change) (w : IsWindow gs i) → ((k : ℕ) → put_at c.edits c.count k ≡ put_at (edits_of gs i w) (length (edits_of gs i w)) k) → c.turn ≡ window_turn gs i w
     → IsRuleStep (rule_of gs i w) i gs (changed c gs) c.turn
 rule_step gs i c w told turn = record {
   window = w;
@@ -114,7 +114,7 @@ pub record Surrounded (gs : List Gate) (i : ℕ) (c t m d e x y : ℕ) : Type 0 
   pub v : ℕ
   pub window : IsSurroundedAt gs c t a b m u v
   pub start : a ≡ i
-  pub told : (k : ℕ) → put_at (surrounded_change a c t b m u v).edits 5 k ≡ put_at (taken x ∷ taken y ∷ placed m (Cx t c) ∷ taken d ∷ taken e ∷ []) 5 k
+  pub told : (k : ℕ) → put_at (surrounded_change a c t b m u v).edits 5 k ≡ put_at (removing x ∷ removing y ∷ putting m (Cx t c) ∷ removing d ∷ removing e ∷ []) 5 k
 
 surrounded : (gs : List Gate) (i : ℕ) (w : IsSurrounded gs i) → w.c ≢ w.t → Surrounded gs i w.c w.t w.m w.d w.e w.a w.b
 surrounded gs i w ne =
@@ -156,17 +156,17 @@ surrounded gs i w ne =
     }
 
 -- ---- windows
-turned_at : (mid : ℕ → Gate) (gs : List Gate) (i : ℕ) (w : IsTurned mid gs i) → IsTurnedAt mid gs w.q i w.j w.k
+turned_at : (mid : ℕ → Gate) (gs : List Gate) (i : ℕ) (w : IsAroundOne mid gs i) → IsAroundOneAt mid gs w.q i w.j w.k
 turned_at mid gs i w = record { first = w.first; second = w.second; third = w.third }
 
 conjugated_at : (k : ℕ) (gs : List Gate) (i : ℕ) → (k ≡ 2) ⊎ (k ≡ 6) → (w : IsConjugated k gs i) → IsConjugatedAt k gs w.t i w.a w.b w.e
 conjugated_at k gs i p w = record { c = w.c; m = w.m; phase = p; first = w.first; second = w.second; third = w.third; fourth = w.fourth; fifth = w.fifth }
 
-pub window_made : (n : ℕ) (gs : List Gate) (i : ℕ) (w : IsWindow gs i) → All (IsFine n) gs → Made n gs (edited (edits_of gs i w) gs) (turn_of gs i w)
-window_made n gs i (HadSHad w) all = edited-made n gs (three_edits (placed i (P 6 w.q)) (placed w.j (H w.q)) (placed w.k (P 6 w.q)) 6) (edits_of gs i (HadSHad w)) all (turned_s n gs w.q i w.j w.k all (turned_at (P 2) gs i w)) (λ k. refl)
-window_made n gs i (HadSdgHad w) all = edited-made n gs (three_edits (placed i (P 2 w.q)) (placed w.j (H w.q)) (placed w.k (P 2 w.q)) 0) (edits_of gs i (HadSdgHad w)) all (turned_sdg n gs w.q i w.j w.k all (turned_at (P 6) gs i w)) (λ k. refl)
-window_made n gs i (HadZHad w) all = edited-made n gs (three_edits (taken i) (placed w.j (X w.q)) (taken w.k) 0) (edits_of gs i (HadZHad w)) all (turned_z n gs w.q i w.j w.k all (turned_at (P 4) gs i w)) (λ k. refl)
-window_made n gs i (HadXHad w) all = edited-made n gs (three_edits (taken i) (placed w.j (P 4 w.q)) (taken w.k) 4) (edits_of gs i (HadXHad w)) all (turned_not n gs w.q i w.j w.k all (turned_at X gs i w)) (λ k. refl)
+pub window_made : (n : ℕ) (gs : List Gate) (i : ℕ) (w : IsWindow gs i) → All (IsFine n) gs → Made n gs (edited (edits_of gs i w) gs) (window_turn gs i w)
+window_made n gs i (HadSHad w) all = edited-made n gs (three_edits (putting i (P 6 w.q)) (putting w.j (H w.q)) (putting w.k (P 6 w.q)) 6) (edits_of gs i (HadSHad w)) all (turned_s n gs w.q i w.j w.k all (turned_at (P 2) gs i w)) (λ k. refl)
+window_made n gs i (HadSdgHad w) all = edited-made n gs (three_edits (putting i (P 2 w.q)) (putting w.j (H w.q)) (putting w.k (P 2 w.q)) 0) (edits_of gs i (HadSdgHad w)) all (turned_sdg n gs w.q i w.j w.k all (turned_at (P 6) gs i w)) (λ k. refl)
+window_made n gs i (HadZHad w) all = edited-made n gs (three_edits (removing i) (putting w.j (X w.q)) (removing w.k) 0) (edits_of gs i (HadZHad w)) all (turned_z n gs w.q i w.j w.k all (turned_at (P 4) gs i w)) (λ k. refl)
+window_made n gs i (HadXHad w) all = edited-made n gs (three_edits (removing i) (putting w.j (P 4 w.q)) (removing w.k) 4) (edits_of gs i (HadXHad w)) all (turned_not n gs w.q i w.j w.k all (turned_at X gs i w)) (λ k. refl)
 window_made n gs i (FourHads w) all =
     let s = surrounded gs i w (fine_at n gs w.m (Cx w.c w.t) all w.middle_control.there).1.1 in
     edited-made n gs (surrounded_change s.a w.c w.t s.b w.m s.u s.v) (edits_of gs i (FourHads w)) all (surrounded_law n gs w.c w.t s.a s.b w.m s.u s.v all s.window) s.told
@@ -184,7 +184,7 @@ same_made : (n : ℕ) (old new other : List Gate) (t u : ℕ) → new ≡ other 
 same_made n old new other t u e f h = subst (λ k. Made n old new k) (sym f) (subst (λ xs. Made n old xs u) (sym e) h)
 
 pub rule_made : (n k i : ℕ) (old new : List Gate) (t : ℕ) → All (IsFine n) old → IsRuleStep k i old new t → Made n old new t
-rule_made n k i old new t fine h = same_made n old new (edited (edits_of old i h.window) old) t (turn_of old i h.window) h.gates h.turn (window_made n old i h.window fine)
+rule_made n k i old new t fine h = same_made n old new (edited (edits_of old i h.window) old) t (window_turn old i h.window) h.gates h.turn (window_made n old i h.window fine)
 
 pub both_made : (n i j : ℕ) (old new : List Gate) (t : ℕ) → All (IsFine n) old → IsBothStep i j old new t → Made n old new t
 both_made n i j old new t fine h =

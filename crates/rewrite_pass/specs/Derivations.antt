@@ -4,9 +4,9 @@
 --     IsDerivation d   the gates come from the source by a rewriting of that turn, and if steps are told, they lead there
 --     IsContinued x y  y has the source and the wires of x, and tells steps if x does
 --     IsStepped s t x y    one step: s leads from the gates of x to those of y, and takes the turn t
---     IsReplaced t x b y   the circuit b in place of that of x, with the turn t; the step is told if the gates are others
+--     IsReplacedBy t x b y  the circuit b in place of that of x, with the turn t; the step is told if the gates are others
 --     IsCompacted x y      nothing has changed but slots
---     IsOutcome gs i j c   c is what the gates at i and j are together
+--     CancelsTo gs i j c   c is what the gates at i and j are together
 --     HasNoMore n old new    no more T gates, odd path parities on n wires, and CNOTs
 use Rattle.std.specs.Prelude.{◌≡◌, ℕ, ◌+◌, ◌%◌, ◌≤◌, Bool, true, List, [], ◌∷◌, ◌++◌, Some, slice_get}
 use Rattle.circuit_list.specs.declared.Gate.{Gate}
@@ -42,7 +42,7 @@ pub record IsStepped (s : Step) (t : ℕ) (x y : Derivation) : Type 0 where
   pub turn : y.turn ≡ (x.turn + t) % 8
   pub steps : x.told ≡ true → y.steps ≡ x.steps ++ s ∷ []
 
-pub record IsReplaced (t : ℕ) (x : Derivation) (b : Body) (y : Derivation) : Type 0 where
+pub record IsReplacedBy (t : ℕ) (x : Derivation) (b : Body) (y : Derivation) : Type 0 where
   pub continued : IsContinued x y
   pub body : y.body ≡ b
   pub turn : y.turn ≡ (x.turn + t) % 8
@@ -54,8 +54,8 @@ pub record IsCompacted (x y : Derivation) : Type 0 where
   pub turn : y.turn ≡ x.turn
   pub steps : y.steps ≡ x.steps
 
-abbrev pub IsOutcome : List Gate → ℕ → ℕ → Cancel → Type 0
-IsOutcome gs i j c = (g h : Gate) → slice_get gs i ≡ Some g → slice_get gs j ≡ Some h → cancel_of g h ≡ c
+abbrev pub CancelsTo : List Gate → ℕ → ℕ → Cancel → Type 0
+CancelsTo gs i j c = (g h : Gate) → slice_get gs i ≡ Some g → slice_get gs j ≡ Some h → cancel_of g h ≡ c
 
 pub record HasNoMore (n : ℕ) (old new : List Gate) : Type 0 where
   pub t_gates : t_count (ops new) ≤ t_count (ops old)

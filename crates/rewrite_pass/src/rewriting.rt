@@ -6,7 +6,7 @@ ghost use Rattle.commute_rules.specs.Cancels.{with_phase};
 ghost use Rattle.commute_rules.specs.declared.Cancel.TheVariants as cancelling;
 ghost use Rattle.commute_rules.specs.Reducible.{IsReducible};
 ghost use Rattle.path_parity.specs.NamedSums.{SamePathSum};
-ghost use Rattle.rewrite_pass.specs.Derivations.{HasNoMore, IsCompacted, IsOutcome, IsReplaced, IsStepped};
+ghost use Rattle.rewrite_pass.specs.Derivations.{HasNoMore, IsCompacted, CancelsTo, IsReplacedBy, IsStepped};
 ghost use Rattle.rewrite_pass.specs.Edits.{IsChange, changed};
 ghost use Rattle.rewrite_pass.specs.Law.{IsRewriting};
 ghost use Rattle.rewrite_pass.specs.Traces.{Step, AreSteps, IsRuleStep, constants_turn};
@@ -97,7 +97,7 @@ impl Rewriting {
         requires first { IsLive self.old.body first }
         requires second { IsLive self.old.body second }
         requires pair { IsReducible self.old.body.gates (place_of first self.old.body.slots) (place_of second self.old.body.slots) }
-        requires outcome { IsOutcome self.old.body.gates (place_of first self.old.body.slots) (place_of second self.old.body.slots) (cancelling.Both turn) }
+        requires outcome { CancelsTo self.old.body.gates (place_of first self.old.body.slots) (place_of second self.old.body.slots) (cancelling.Both turn) }
         ensures ok { OnOk result (IsStepped (Step.Both (place_of first self.old.body.slots) (place_of second self.old.body.slots)) turn self.old self.new) }
         ensures err { OnErr result (self.new ≡ self.old) }
     {
@@ -116,7 +116,7 @@ impl Rewriting {
         requires first { IsLive self.old.body first }
         requires second { IsLive self.old.body second }
         requires pair { IsReducible self.old.body.gates (place_of first self.old.body.slots) (place_of second self.old.body.slots) }
-        requires outcome { IsOutcome self.old.body.gates (place_of first self.old.body.slots) (place_of second self.old.body.slots) (cancelling.Merge k) }
+        requires outcome { CancelsTo self.old.body.gates (place_of first self.old.body.slots) (place_of second self.old.body.slots) (cancelling.Merge k) }
         ensures ok { OnOk result (IsStepped (Step.Join (place_of first self.old.body.slots) (place_of second self.old.body.slots)) 0 self.old self.new) }
         ensures live { OnOk result (IsLive self.new.body first) }
         ensures earlier { OnOk result ((t : ℕ) → place_of t self.old.body.slots < place_of second self.old.body.slots →
@@ -156,7 +156,7 @@ impl Rewriting {
         requires sums { SamePathSum self.old.body.wires self.old.body.gates body.gates }
         requires turn { turn ≡ constants_turn self.old.body.wires self.old.body.gates body.gates }
         requires no_more { HasNoMore self.old.body.wires self.old.body.gates body.gates }
-        ensures ok { OnOk result (IsReplaced turn self.old body self.new) }
+        ensures ok { OnOk result (IsReplacedBy turn self.old body self.new) }
         ensures err { OnErr result (self.new ≡ self.old) }
     {
         self.log.push_sums(&self.body, &body)?;

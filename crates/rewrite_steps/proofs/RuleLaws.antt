@@ -13,19 +13,19 @@ use Rattle.circuit_list.specs.declared.Gate.TheVariants.{H, X, P, Cx}
 use Rattle.circuit_list.specs.Gates.{IsFine, is_on}
 use Rattle.circuit_list.specs.Slots.{IsPrevOn, is_on_some}
 use Rattle.rewrite_pass.specs.declared.rule.Edit.{Edit}
-use Rattle.rewrite_pass.specs.Edits.{taken, placed, put_at}
+use Rattle.rewrite_pass.specs.Edits.{removing, putting, put_at}
 use Rattle.rewrite_pass.specs.Traces.{IsRuleStep, edited, rule_of}
 use Rattle.rewrite_pass.specs.WindowPlaces.{IsConjugatedAt}
-use Rattle.rewrite_pass.specs.Windows.{At, Follows, IsTurned, IsConjugated, IsSurrounded, IsWindow, HadSHad, HadSdgHad, HadZHad, HadXHad, FourHads, SCxSdg, SdgCxS}
+use Rattle.rewrite_pass.specs.Windows.{At, Follows, IsAroundOne, IsConjugated, IsSurrounded, IsWindow, HadSHad, HadSdgHad, HadZHad, HadXHad, FourHads, SCxSdg, SdgCxS}
 use Rattle.rewrite_pass.proofs.AlikeLaws.{same_gate, same_h, same_cx, follows_same, opens}
 use Rattle.rewrite_pass.proofs.TraceLaws.{changed_alike}
-use Rattle.rewrite_steps.specs.RuleWindows.{IsWindowOf, IsTurnedTo, IsExchanged, IsTurnedAround, IsAround, edit, put_gates}
+use Rattle.rewrite_steps.specs.RuleWindows.{IsWindowOf, IsReplacedAroundOne, IsExchanged, IsReversedCx, IsAround, edit, put_gates}
 use Rattle.rewrite_steps.specs.declared.windows.Around.{Around}
 use Rattle.rewrite_steps.proofs.EditLaws.{edited_none, edited_more, either_order}
 
 -- ---- what the edits make
 pub turned_to : (q i j k : ℕ) (middle inner : Gate) (outer : Option Gate) (old s u new : List Gate) → Follows q old i middle j → Follows q old j (H q) k
-    → s ≡ put_gates outer k old → u ≡ put_gates (Some inner) j s → new ≡ put_gates outer i u → IsTurnedTo q i middle outer inner old new
+    → s ≡ put_gates outer k old → u ≡ put_gates (Some inner) j s → new ≡ put_gates outer i u → IsReplacedAroundOne q i middle outer inner old new
 turned_to q i j k middle inner outer old s u new f g one two three =
     let low : i < j = f.next.behind in
     let high : j < k = g.next.behind in
@@ -35,7 +35,7 @@ turned_to q i j k middle inner outer old s u new f g one two three =
       k = k;
       second = f;
       third = g;
-      gates = edited_more i outer (placed j inner ∷ edit k outer ∷ []) old u new (low, (omega (arith, low, high), tt)) (omega (arith, low, high, within))
+      gates = edited_more i outer (putting j inner ∷ edit k outer ∷ []) old u new (low, (omega (arith, low, high), tt)) (omega (arith, low, high, within))
           (edited_more j (Some inner) (edit k outer ∷ []) old s u (high, tt) (omega (arith, high, within))
           (edited_more k outer [] old old s tt within (edited_none old) one) two) three;
     }
@@ -51,9 +51,9 @@ exchanged k t i a b e old s u v new h one two three four =
     let within : e < length old = slice_get_within old e (H t) h.fifth.there in
     record {
       window = record { c = h.c; t = t; a = a; m = h.m; b = b; e = e; first = h.first; second = h.second; third = h.third; fourth = h.fourth; fifth = h.fifth };
-      gates = edited_more i None (placed a (P (8 - k) t) ∷ placed b (P k t) ∷ taken e ∷ []) old v new (ia, (omega (arith, ia, ab), (omega (arith, ia, ab, be), tt))) (omega (arith, ia, ab, be, within))
-          (edited_more a (Some (P (8 - k) t)) (placed b (P k t) ∷ taken e ∷ []) old u v (ab, (omega (arith, ab, be), tt)) (omega (arith, ab, be, within))
-          (edited_more b (Some (P k t)) (taken e ∷ []) old s u (be, tt) (omega (arith, be, within))
+      gates = edited_more i None (putting a (P (8 - k) t) ∷ putting b (P k t) ∷ removing e ∷ []) old v new (ia, (omega (arith, ia, ab), (omega (arith, ia, ab, be), tt))) (omega (arith, ia, ab, be, within))
+          (edited_more a (Some (P (8 - k) t)) (putting b (P k t) ∷ removing e ∷ []) old u v (ab, (omega (arith, ab, be), tt)) (omega (arith, ab, be, within))
+          (edited_more b (Some (P k t)) (removing e ∷ []) old s u (be, tt) (omega (arith, be, within))
           (edited_more e None [] old old s tt within (edited_none old) one) two) three) four;
     }
 
@@ -74,7 +74,7 @@ lower : (a b : ℕ) → a ≢ b → min a b < max a b
 lower a b h = grind arith
 
 pub turned_around : (i c t a b m d e : ℕ) (old s u v x new : List Gate) → IsAround old i c t a b m d e
-    → s ≡ put_gates None (max d e) old → u ≡ put_gates None (min d e) s → v ≡ put_gates (Some (Cx t c)) m u → x ≡ put_gates None (max a b) v → new ≡ put_gates None i x → IsTurnedAround i old new
+    → s ≡ put_gates None (max d e) old → u ≡ put_gates None (min d e) s → v ≡ put_gates (Some (Cx t c)) m u → x ≡ put_gates None (max a b) v → new ≡ put_gates None i x → IsReversedCx i old new
 turned_around i c t a b m d e old s u v x new h one two three four five = record {
   window = record {
     c = c;
@@ -92,7 +92,7 @@ turned_around i c t a b m d e old s u v x new h one two three four five = record
     target_behind = h.target_behind;
     begins = h.begins;
   };
-  gates = sorted ∙ changed_alike (record { edits = ordered; count = 5; turn = 0 }) (record { edits = taken a ∷ taken b ∷ placed m (Cx t c) ∷ taken d ∷ taken e ∷ []; count = 5; turn = 0 }) 0 old same;
+  gates = sorted ∙ changed_alike (record { edits = ordered; count = 5; turn = 0 }) (record { edits = removing a ∷ removing b ∷ putting m (Cx t c) ∷ removing d ∷ removing e ∷ []; count = 5; turn = 0 }) 0 old same;
 }
   where
     low : ℕ
@@ -105,7 +105,7 @@ turned_around i c t a b m d e old s u v x new h one two three four five = record
     second = max a b
 
     ordered : List Edit
-    ordered = taken i ∷ taken second ∷ placed m (Cx t c) ∷ taken low ∷ taken high ∷ []
+    ordered = removing i ∷ removing second ∷ putting m (Cx t c) ∷ removing low ∷ removing high ∷ []
 
     before : i < second
     before = omega (arith, h.begins, lower a b (apart old c t a b h.differ h.control_before h.target_before))
@@ -124,24 +124,24 @@ turned_around i c t a b m d e old s u v x new h one two three four five = record
 
     sorted : new ≡ edited ordered old
     sorted =
-        edited_more i None (taken second ∷ placed m (Cx t c) ∷ taken low ∷ taken high ∷ []) old x new
+        edited_more i None (removing second ∷ putting m (Cx t c) ∷ removing low ∷ removing high ∷ []) old x new
         (before, (omega (arith, before, into), (omega (arith, before, into, out), (omega (arith, before, into, out, behind), tt)))) (omega (arith, before, into, out, behind, within))
-        (edited_more second None (placed m (Cx t c) ∷ taken low ∷ taken high ∷ []) old v x (into, (omega (arith, into, out), (omega (arith, into, out, behind), tt))) (omega (arith, into, out, behind, within))
-        (edited_more m (Some (Cx t c)) (taken low ∷ taken high ∷ []) old u v (out, (omega (arith, out, behind), tt)) (omega (arith, out, behind, within))
-        (edited_more low None (taken high ∷ []) old s u (behind, tt) (omega (arith, behind, within))
+        (edited_more second None (putting m (Cx t c) ∷ removing low ∷ removing high ∷ []) old v x (into, (omega (arith, into, out), (omega (arith, into, out, behind), tt))) (omega (arith, into, out, behind, within))
+        (edited_more m (Some (Cx t c)) (removing low ∷ removing high ∷ []) old u v (out, (omega (arith, out, behind), tt)) (omega (arith, out, behind, within))
+        (edited_more low None (removing high ∷ []) old s u (behind, tt) (omega (arith, behind, within))
         (edited_more high None [] old old s tt within (edited_none old) one) two) three) four) five
 
     middle : ℕ → Option (Option Gate) → Option (Option Gate)
     middle k y = cond (nat_eq m k) (Some (Some (Cx t c))) y
 
-    same : (k : ℕ) → put_at ordered 5 k ≡ put_at (taken a ∷ taken b ∷ placed m (Cx t c) ∷ taken d ∷ taken e ∷ []) 5 k
+    same : (k : ℕ) → put_at ordered 5 k ≡ put_at (removing a ∷ removing b ∷ putting m (Cx t c) ∷ removing d ∷ removing e ∷ []) 5 k
     same k =
         ap (λ n. cond (nat_eq n k) (Some None) (cond (nat_eq second k) (Some None) (middle k (cond (nat_eq low k) (Some None) (cond (nat_eq high k) (Some None) None))))) h.begins
         ∙ either_order a b k (middle k (cond (nat_eq low k) (Some None) (cond (nat_eq high k) (Some None) None)))
         ∙ ap (λ y. cond (nat_eq a k) (Some None) (cond (nat_eq b k) (Some None) (middle k y))) (either_order d e k None)
 
 -- ---- where a window isn't there
-pub no_turned : (middle : ℕ → Gate) (gs : List Gate) (q i : ℕ) → At gs i (H q) → ((j k : ℕ) → Follows q gs i (middle q) j → Follows q gs j (H q) k → ⊥) → IsTurned middle gs i → ⊥
+pub no_turned : (middle : ℕ → Gate) (gs : List Gate) (q i : ℕ) → At gs i (H q) → ((j k : ℕ) → Follows q gs i (middle q) j → Follows q gs j (H q) k → ⊥) → IsAroundOne middle gs i → ⊥
 no_turned middle gs q i first none w =
     let wire : w.q ≡ q = same_h w.q q (same_gate gs i (H w.q) (H q) w.first first) in
     none w.j w.k (subst (λ n. Follows n gs i (middle n) w.j) wire w.second) (subst (λ n. Follows n gs w.j (H n) w.k) wire w.third)
@@ -184,34 +184,34 @@ window_of gs i (SdgCxS w) = w
 abbrev pub Missing : ℕ → ℕ → Gate → List Gate → Type 0
 Missing q i middle gs = (j k : ℕ) → Follows q gs i middle j → Follows q gs j (H q) k → ⊥
 
-abbrev turned_is : (middle : ℕ → Gate) (q i : ℕ) (outer : Option Gate) (inner : Gate) (old new : List Gate) → At old i (H q) → IsTurnedTo q i (middle q) outer inner old new → IsTurned middle old i
+abbrev turned_is : (middle : ℕ → Gate) (q i : ℕ) (outer : Option Gate) (inner : Gate) (old new : List Gate) → At old i (H q) → IsReplacedAroundOne q i (middle q) outer inner old new → IsAroundOne middle old i
 turned_is middle q i outer inner old new first s = record { q = q; j = s.j; k = s.k; first = first; second = s.second; third = s.third }
 
-pub by_s : (q i : ℕ) (old new : List Gate) (made : Bool) → At old i (H q) → (made ≡ true → IsTurnedTo q i (P 2 q) (Some (P 6 q)) (H q) old new) → (made ≡ false → Missing q i (P 2 q) old) → Made 1 i old new 6 made
+pub by_s : (q i : ℕ) (old new : List Gate) (made : Bool) → At old i (H q) → (made ≡ true → IsReplacedAroundOne q i (P 2 q) (Some (P 6 q)) (H q) old new) → (made ≡ false → Missing q i (P 2 q) old) → Made 1 i old new 6 made
 by_s q i old new made first there not = (
   λ e. record { window = HadSHad (turned_is (P 2) q i (Some (P 6 q)) (H q) old new first (there e)); rule = refl; gates = (there e).gates; turn = refl },
   λ e. no_turned (P 2) old q i first (not e),
 )
 
-pub by_sdg : (q i : ℕ) (old new : List Gate) (made : Bool) → At old i (H q) → (made ≡ true → IsTurnedTo q i (P 6 q) (Some (P 2 q)) (H q) old new) → (made ≡ false → Missing q i (P 6 q) old) → Made 2 i old new 0 made
+pub by_sdg : (q i : ℕ) (old new : List Gate) (made : Bool) → At old i (H q) → (made ≡ true → IsReplacedAroundOne q i (P 6 q) (Some (P 2 q)) (H q) old new) → (made ≡ false → Missing q i (P 6 q) old) → Made 2 i old new 0 made
 by_sdg q i old new made first there not = (
   λ e. record { window = HadSdgHad (turned_is (P 6) q i (Some (P 2 q)) (H q) old new first (there e)); rule = refl; gates = (there e).gates; turn = refl },
   λ e. no_turned (P 6) old q i first (not e),
 )
 
-pub by_z : (q i : ℕ) (old new : List Gate) (made : Bool) → At old i (H q) → (made ≡ true → IsTurnedTo q i (P 4 q) None (X q) old new) → (made ≡ false → Missing q i (P 4 q) old) → Made 3 i old new 0 made
+pub by_z : (q i : ℕ) (old new : List Gate) (made : Bool) → At old i (H q) → (made ≡ true → IsReplacedAroundOne q i (P 4 q) None (X q) old new) → (made ≡ false → Missing q i (P 4 q) old) → Made 3 i old new 0 made
 by_z q i old new made first there not = (
   λ e. record { window = HadZHad (turned_is (P 4) q i None (X q) old new first (there e)); rule = refl; gates = (there e).gates; turn = refl },
   λ e. no_turned (P 4) old q i first (not e),
 )
 
-pub by_not : (q i : ℕ) (old new : List Gate) (made : Bool) → At old i (H q) → (made ≡ true → IsTurnedTo q i (X q) None (P 4 q) old new) → (made ≡ false → Missing q i (X q) old) → Made 4 i old new 4 made
+pub by_not : (q i : ℕ) (old new : List Gate) (made : Bool) → At old i (H q) → (made ≡ true → IsReplacedAroundOne q i (X q) None (P 4 q) old new) → (made ≡ false → Missing q i (X q) old) → Made 4 i old new 4 made
 by_not q i old new made first there not = (
   λ e. record { window = HadXHad (turned_is X q i None (P 4 q) old new first (there e)); rule = refl; gates = (there e).gates; turn = refl },
   λ e. no_turned X old q i first (not e),
 )
 
-pub by_cnot : (i : ℕ) (old new : List Gate) (made : Bool) → (made ≡ true → IsTurnedAround i old new) → (made ≡ false → IsSurrounded old i → ⊥) → Made 5 i old new 4 made
+pub by_cnot : (i : ℕ) (old new : List Gate) (made : Bool) → (made ≡ true → IsReversedCx i old new) → (made ≡ false → IsSurrounded old i → ⊥) → Made 5 i old new 4 made
 by_cnot i old new made there not = (λ e. record { window = FourHads (there e).window; rule = refl; gates = (there e).gates; turn = refl }, not)
 
 pub by_s_cnot : (i : ℕ) (old new : List Gate) (made : Bool) → (made ≡ true → IsExchanged 2 i old new) → (made ≡ false → IsConjugated 2 old i → ⊥) → Made 6 i old new 6 made

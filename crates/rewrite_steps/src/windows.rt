@@ -6,7 +6,7 @@ ghost use Rattle.circuit_list.specs.Gates.{IsFine};
 ghost use Rattle.rewrite_pass.specs.Traces.{IsRuleStep};
 ghost use Rattle.rewrite_pass.specs.WindowPlaces.{IsConjugatedAt};
 ghost use Rattle.rewrite_pass.specs.Windows.{At, Follows, IsConjugated, IsSurrounded};
-ghost use Rattle.rewrite_steps.specs.RuleWindows.{IsAround, IsExchanged, IsTurnedAround, IsTurnedTo, put_gates};
+ghost use Rattle.rewrite_steps.specs.RuleWindows.{IsAround, IsExchanged, IsReversedCx, IsReplacedAroundOne, put_gates};
 
 use circuit_list::{Circuit, Gate};
 use rewrite_pass::{next_gate, next_is, prev_is};
@@ -75,7 +75,7 @@ fn turn(
     requires outer { IfSome outer (IsFine body.old.wires) }
     requires inner { IsFine body.old.wires inner }
     ensures wires { body.new.wires ≡ body.old.wires }
-    ensures yes { result ≡ true → IsTurnedTo q place middle outer inner body.old.gates body.new.gates }
+    ensures yes { result ≡ true → IsReplacedAroundOne q place middle outer inner body.old.gates body.new.gates }
     ensures no { result ≡ false → (j k : ℕ) → Follows q body.old.gates place middle j →
         ¬ Follows q body.old.gates j (Gate.H q) k }
     ensures same { result ≡ false → body.new.gates ≡ body.old.gates }
@@ -189,7 +189,7 @@ fn surrounded_at(body: &Circuit, place: usize, q: u32) -> Option<Around>
 fn turn_around(body: &mut Circuit, place: usize, q: u32) -> bool
     requires first { At body.old.gates place (Gate.H q) }
     ensures wires { body.new.wires ≡ body.old.wires }
-    ensures yes { result ≡ true → IsTurnedAround place body.old.gates body.new.gates }
+    ensures yes { result ≡ true → IsReversedCx place body.old.gates body.new.gates }
     ensures no { result ≡ false → ¬ IsSurrounded body.old.gates place }
     ensures same { result ≡ false → body.new.gates ≡ body.old.gates }
 {

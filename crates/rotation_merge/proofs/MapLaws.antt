@@ -22,8 +22,8 @@ use Rattle.path_parity.specs.Sets.{set_of, label_of, IsPacked, IsLabel}
 use Rattle.path_parity.proofs.SetLaws.{set-same}
 use Rattle.rotation_merge.specs.declared.totals.Note.{Note}
 use Rattle.rotation_merge.specs.declared.totals.Totals.{Totals}
-use Rattle.rotation_merge.specs.Merging.{signed_phase, constant_phase, with_total, totals_after, constant_at, kept_phase, kept_constant, merged_gate, merged_constant, left_after}
-use Rattle.rotation_merge.specs.Sums.{rows, total_in, HasTotals, AreSmall, ChangesTotal, Gathers, IsNoted, Writes}
+use Rattle.rotation_merge.specs.Merging.{signed_phase, constant_phase, with_total, totals_after, merge_constant_at, kept_phase, kept_constant, merged_gate, merged_constant, left_after}
+use Rattle.rotation_merge.specs.Sums.{rows, total_in, HasTotals, AreBelowEight, ChangesTotal, Gathers, IsNoteOf, Writes}
 use Rattle.rotation_merge.proofs.MarkLists.{equal}
 use Rattle.rotation_merge.proofs.NoteLaws.{row-at, entry-at}
 
@@ -83,11 +83,11 @@ HasTotals-changed old new vs k T inc lt c h = record { at = λ ws f. go ws f (na
     go ws f true e = ap (total_in new) (set-same ws vs f inc (sym (equal (set_of vs) (set_of ws) e))) ∙ c.here
     go ws f false e = c.others ws (λ g. clash (set_of ws) (set_of vs) (ap set_of g) e) ∙ h.at ws f
 
-pub AreSmall-has : (t : Totals) (T : ℕ → ℕ) → HasTotals t T → AreSmall t
+pub AreSmall-has : (t : Totals) (T : ℕ → ℕ) → HasTotals t T → AreBelowEight t
 AreSmall-has t T h = λ vs f. subst (λ k. k < 8) (sym (h.at vs f)) (h.below (set_of vs))
 
 -- ---- a gate added
-pub gathers_none : (g : Gate) (w : Wires) (T : ℕ → ℕ) (t : Totals) → totals_after g w T ≡ T → constant_at g w ≡ 0 → HasTotals t T → Gathers g w T t t
+pub gathers_none : (g : Gate) (w : Wires) (T : ℕ → ℕ) (t : Totals) → totals_after g w T ≡ T → merge_constant_at g w ≡ 0 → HasTotals t T → Gathers g w T t t
 gathers_none g w T t e f h = record { totals = subst (λ (U : ℕ → ℕ). HasTotals t U) (sym e) h; constant = omega (arith, f) }
 
 pub gathers_phase : (w : Wires) (T : ℕ → ℕ) (old new : Totals) (l : Label) (k q : ℕ) → label_of l ≡ w q → IsLabel l →
@@ -109,7 +109,7 @@ gathers_phase w T old new l k q e f c d h = record {
 pub writes_none : (g : Gate) (w : Wires) (T : ℕ → ℕ) (t : Totals) (a b : List Gate) → left_after g w T ≡ T → merged_constant g w T ≡ 0 → merged_gate g w T ≡ g ∷ [] → b ≡ a ++ g ∷ [] → HasTotals t T → Writes g w T t t a b
 writes_none g w T t a b e f m d h = record { gates = d ∙ ap (λ us. a ++ us) (sym m); totals = subst (λ (U : ℕ → ℕ). HasTotals t U) (sym e) h; constant = omega (arith, f) }
 
-pub writes_phase : (w : Wires) (T : ℕ → ℕ) (old new : Totals) (a b : List Gate) (note : Note) (k q : ℕ) (h : IsNoted (rows old) note (w q)) →
+pub writes_phase : (w : Wires) (T : ℕ → ℕ) (old new : Totals) (a b : List Gate) (note : Note) (k q : ℕ) (h : IsNoteOf (rows old) note (w q)) →
     b ≡ a ++ kept_phase (label (set_of h.row) note.bit) (total_in old h.row % 8) q → ChangesTotal old new h.row 0 →
     (new.constant + kept_constant (label (set_of h.row) note.bit) (total_in old h.row % 8)) % 8 ≡ old.constant % 8 → HasTotals old T → Writes (P k q) w T old new a b
 writes_phase w T old new a b note k q n g c d h = record {

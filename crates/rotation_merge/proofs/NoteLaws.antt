@@ -16,7 +16,7 @@ use Rattle.std.proofs.lemmas.Option.{slice_get-map, slice_get-get_or}
 use Rattle.indexmap.proofs.MapLemmas.{Found-position, some_index}
 use Rattle.path_parity.specs.PathSum.{PathLabel}
 use Rattle.rotation_merge.specs.declared.totals.Note.{Note}
-use Rattle.rotation_merge.specs.Sums.{IsNoted, AreNoted}
+use Rattle.rotation_merge.specs.Sums.{IsNoteOf, AreNoted}
 
 -- ---- rows
 pub row-at : {K : Type 0} (f : K → List ℕ) (es : List (K × ℕ)) (i : ℕ) (e : K × ℕ) → slice_get es i ≡ Some e → slice_get (map f (keys_of es)) i ≡ Some (f e.0)
@@ -69,7 +69,7 @@ noted-more rs more (n ∷ notes) (l ∷ ls) h = (
   noted-more rs more notes ls h.1,
 )
 
-pub noted-push : (rs : List (List ℕ)) (notes : List Note) (ls : List PathLabel) (n : Note) (l : PathLabel) → IsNoted rs n l → AreNoted rs notes ls → AreNoted rs (notes ++ n ∷ []) (ls ++ l ∷ [])
+pub noted-push : (rs : List (List ℕ)) (notes : List Note) (ls : List PathLabel) (n : Note) (l : PathLabel) → IsNoteOf rs n l → AreNoted rs notes ls → AreNoted rs (notes ++ n ∷ []) (ls ++ l ∷ [])
 noted-push rs [] [] n l g h = (g, tt)
 noted-push rs [] (k ∷ ls) n l g h = absurd h
 noted-push rs (m ∷ notes) [] n l g h = absurd h
@@ -81,7 +81,7 @@ noted-within rs [] (suc j) l ls h = absurd h
 noted-within rs (n ∷ notes) zero l ls h = omega arith
 noted-within rs (n ∷ notes) (suc j) l ls h = omega (arith, noted-within rs notes j l ls h)
 
-pub noted-first : (rs : List (List ℕ)) (notes : List Note) (j : ℕ) (l : PathLabel) (ls : List PathLabel) (d : Note) → AreNoted rs (drop j notes) (l ∷ ls) → IsNoted rs (get_or notes j d) l
+pub noted-first : (rs : List (List ℕ)) (notes : List Note) (j : ℕ) (l : PathLabel) (ls : List PathLabel) (d : Note) → AreNoted rs (drop j notes) (l ∷ ls) → IsNoteOf rs (get_or notes j d) l
 noted-first rs [] zero l ls d h = absurd h
 noted-first rs [] (suc j) l ls d h = absurd h
 noted-first rs (n ∷ notes) zero l ls d h = h.0

@@ -16,7 +16,7 @@ use Rattle.path_parity.specs.LabelWalks.{LabelWalk, labels_at}
 use Rattle.path_parity.specs.PathSum.{PathLabel, Wires, own_labels, labels_after, phase_label, phase_labels, unused_after}
 use Rattle.path_parity.proofs.LoopLaws.{labels-end, labels-step}
 use Rattle.rotation_merge.specs.declared.totals.Totals.{Totals}
-use Rattle.rotation_merge.specs.Merging.{totals_after, totals_from, totals_of, constant_at, constant_from, constant_of, merged_gate, merged_constant, left_after, merged_from, merged}
+use Rattle.rotation_merge.specs.Merging.{totals_after, totals_from, totals_of, merge_constant_at, constant_from, merge_constant_of, merged_gate, merged_constant, left_after, merged_from, merged}
 use Rattle.rotation_merge.specs.Sums.{rows, total_in, AreNoted, HasTotals, Gathers, Writes, IsMerged}
 use Rattle.rotation_merge.proofs.MergedLaws.{constant-merged}
 use Rattle.rotation_merge.proofs.NoteLaws.{noted-within}
@@ -44,7 +44,7 @@ pub record IsGathering (n : ℕ) (gs rest : List Gate) (walk : LabelWalk) (t : T
   pub so_far : ℕ → ℕ
   pub has : HasTotals t so_far
   pub totals : totals_from rest (labels_at walk) walk.unused so_far ≡ totals_of n gs
-  pub constant : (t.constant + constant_from rest (labels_at walk) walk.unused) % 8 ≡ constant_of n gs % 8
+  pub constant : (t.constant + constant_from rest (labels_at walk) walk.unused) % 8 ≡ merge_constant_of n gs % 8
   pub passed : List PathLabel
   pub noted : AreNoted (rows t) t.notes.items passed
   pub labels : passed ++ phase_labels rest (labels_at walk) walk.unused ≡ phase_labels gs (own_labels n) n
@@ -55,7 +55,7 @@ gathering-start n gs walk t b none blank zero = record {
   so_far = λ s. 0;
   has = record { at = λ vs f. none vs; below = λ s. omega arith };
   totals = λ i. totals_from gs (b.labels i) (b.unused i) (λ s. 0);
-  constant = (λ i. (zero i + constant_from gs (b.labels i) (b.unused i)) % 8) ∙ ap (λ k. k % 8) (zero-add (constant_of n gs));
+  constant = (λ i. (zero i + constant_from gs (b.labels i) (b.unused i)) % 8) ∙ ap (λ k. k % 8) (zero-add (merge_constant_of n gs));
   passed = [];
   noted = subst (λ notes. AreNoted (rows t) notes []) (sym blank) tt;
   labels = λ i. phase_labels gs (b.labels i) (b.unused i);
@@ -71,7 +71,7 @@ gathering-more n gs i g walk walk' t t' there p added put h =
     let u : ℕ = walk.unused in
     let T : ℕ → ℕ = h.so_far in
     let step : Gathers g w T t t' = added T h.has in
-    let first : constant_from (drop i gs) w u ≡ constant_at g w + constant_from rest (labels_after g w u) (unused_after g u) = λ j. constant_from (next_gate gs i g there j) w u in
+    let first : constant_from (drop i gs) w u ≡ merge_constant_at g w + constant_from rest (labels_after g w u) (unused_after g u) = λ j. constant_from (next_gate gs i g there j) w u in
     let later : constant_from rest (labels_at walk') walk'.unused ≡ constant_from rest (labels_after g w u) (unused_after g u) = λ j. constant_from rest (p.labels j) (p.unused j) in
     record {
       wires = p.wires ∙ h.wires;
@@ -85,7 +85,7 @@ gathering-more n gs i g walk walk' t t' there p added put h =
     }
 
 pub gathering-end : (n : ℕ) (gs : List Gate) (i : ℕ) (walk : LabelWalk) (t : Totals) → length gs ≤ i → IsGathering n gs (drop i gs) walk t →
-    HasTotals t (totals_of n gs) × (t.constant % 8 ≡ constant_of n gs % 8) × AreNoted (rows t) t.notes.items (phase_labels gs (own_labels n) n)
+    HasTotals t (totals_of n gs) × (t.constant % 8 ≡ merge_constant_of n gs % 8) × AreNoted (rows t) t.notes.items (phase_labels gs (own_labels n) n)
 gathering-end n gs i walk t le h =
     let end : drop i gs ≡ [] = drop_of_length-le gs le in
     let none : constant_from (drop i gs) (labels_at walk) walk.unused ≡ 0 = λ j. constant_from (end j) (labels_at walk) walk.unused in (
@@ -103,10 +103,10 @@ pub record IsWriting (n : ℕ) (gs rest : List Gate) (t : Totals) (read : ℕ) (
   pub so_far : ℕ → ℕ
   pub has : HasTotals t so_far
   pub gates : b.gates ++ merged_from rest labels unused so_far ≡ merged n gs
-  pub constant : (t.constant + constant_of n (merged n gs)) % 8 ≡ (constant_of n gs + constant_from (merged_from rest labels unused so_far) labels unused) % 8
+  pub constant : (t.constant + merge_constant_of n (merged n gs)) % 8 ≡ (merge_constant_of n gs + constant_from (merged_from rest labels unused so_far) labels unused) % 8
 
 pub writing-start : (n : ℕ) (gs : List Gate) (t : Totals) (b : Body) → b.wires ≡ n → b.gates ≡ [] → HasTotals t (totals_of n gs) →
-    AreNoted (rows t) t.notes.items (phase_labels gs (own_labels n) n) → t.constant % 8 ≡ constant_of n gs % 8 → IsWriting n gs gs t 0 b
+    AreNoted (rows t) t.notes.items (phase_labels gs (own_labels n) n) → t.constant % 8 ≡ merge_constant_of n gs % 8 → IsWriting n gs gs t 0 b
 writing-start n gs t b wires none has noted all = record {
   written = wires;
   labels = own_labels n;
@@ -167,5 +167,5 @@ writing-end n gs i t read p le turn h =
       wires = h.written;
       gates = gates;
       below = omega (arith, turn);
-      turn = ap (λ us. constant_of n us % 8) gates ∙ omega (arith, turn, none, h.constant);
+      turn = ap (λ us. merge_constant_of n us % 8) gates ∙ omega (arith, turn, none, h.constant);
     }

@@ -4,8 +4,8 @@
 --     with_total m k T        the totals T, but k at the set m
 --     totals_after g w T      the totals with gate g, where w are the labels before it
 --     totals_from gs w n T    the totals with a list of gates;  totals_of n gs: those of a circuit on n wires
---     constant_at g w         the constant of a gate
---     constant_from gs w n    of a list;  constant_of n gs: of a circuit on n wires
+--     merge_constant_at g w   the constant of a gate
+--     constant_from gs w n    of a list;  merge_constant_of n gs: of a circuit on n wires
 --     kept_phase l t q        the P on wire q that a total t gives at label l: none where it is 0
 --     kept_constant l t       its constant
 --     merged_gate g w T       what stands in the place of gate g, where T is left: the first P of a set takes its total
@@ -39,18 +39,18 @@ totals_from (g ∷ gs) w n T = totals_from gs (labels_after g w n) (unused_after
 abbrev pub totals_of : ℕ → List Gate → ℕ → ℕ
 totals_of n gs = totals_from gs (own_labels n) n (λ s. 0)
 
-abbrev pub constant_at : Gate → Wires → ℕ
-constant_at (H q) w = 0
-constant_at (X q) w = 0
-constant_at (P k q) w = constant_phase (w q) k
-constant_at (Cx c t) w = 0
+abbrev pub merge_constant_at : Gate → Wires → ℕ
+merge_constant_at (H q) w = 0
+merge_constant_at (X q) w = 0
+merge_constant_at (P k q) w = constant_phase (w q) k
+merge_constant_at (Cx c t) w = 0
 
 abbrev pub constant_from : List Gate → Wires → ℕ → ℕ
 constant_from [] w n = 0
-constant_from (g ∷ gs) w n = constant_at g w + constant_from gs (labels_after g w n) (unused_after g n)
+constant_from (g ∷ gs) w n = merge_constant_at g w + constant_from gs (labels_after g w n) (unused_after g n)
 
-abbrev pub constant_of : ℕ → List Gate → ℕ
-constant_of n gs = constant_from gs (own_labels n) n
+abbrev pub merge_constant_of : ℕ → List Gate → ℕ
+merge_constant_of n gs = constant_from gs (own_labels n) n
 
 abbrev pub kept_phase : PathLabel → ℕ → ℕ → List Gate
 kept_phase l t q = cond (nat_eq t 0) [] (P (signed_phase l t) q ∷ [])

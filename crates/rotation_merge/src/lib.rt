@@ -18,7 +18,7 @@ ghost use Rattle.circuit_list.specs.Gates.{IsFine, ops};
 ghost use Rattle.path_parity.specs.PathSum.{own_labels, phase_labels};
 ghost use Rattle.rewrite_pass.specs.Law.{IsRewriting, IsSmallerOrSame};
 ghost use Rattle.rewrite_pass.specs.Traces.{AreSteps};
-ghost use Rattle.rotation_merge.specs.Merging.{constant_of, totals_of};
+ghost use Rattle.rotation_merge.specs.Merging.{merge_constant_of, totals_of};
 ghost use Rattle.rotation_merge.specs.Sums.{AreNoted, HasTotals, IsMerged, rows};
 ghost use Rattle.unitary_model.specs.Operations.{t_count};
 ghost use Rattle.unitary_model.specs.OddPaths.{odd_paths};
@@ -88,7 +88,7 @@ fn merged(alloc: Global, body: Circuit, told: bool) -> Result<(Passed, Trace), A
 fn gathered(alloc: Global, body: &Circuit) -> Result<Totals, AllocError>
     ensures totals { IfOk result (λ t. HasTotals t (totals_of body.now.wires body.now.gates)) }
     ensures noted { IfOk result (λ t. AreNoted (rows t) t.notes.items (phase_labels body.now.gates (own_labels body.now.wires) body.now.wires)) }
-    ensures constant { IfOk result (λ t. t.constant % 8 ≡ constant_of body.now.wires body.now.gates % 8) }
+    ensures constant { IfOk result (λ t. t.constant % 8 ≡ merge_constant_of body.now.wires body.now.gates % 8) }
 {
     let mut walk = Walk::new(alloc, body.wires())?;
     let mut totals = Totals::new(alloc);
@@ -104,7 +104,7 @@ fn gathered(alloc: Global, body: &Circuit) -> Result<Totals, AllocError>
 fn rewritten(alloc: Global, body: &Circuit, mut totals: Totals) -> Result<Passed, AllocError>
     requires totals { HasTotals totals (totals_of body.now.wires body.now.gates) }
     requires noted { AreNoted (rows totals) totals.notes.items (phase_labels body.now.gates (own_labels body.now.wires) body.now.wires) }
-    requires constant { totals.constant % 8 ≡ constant_of body.now.wires body.now.gates % 8 }
+    requires constant { totals.constant % 8 ≡ merge_constant_of body.now.wires body.now.gates % 8 }
     ensures fine { All (IsFine body.now.wires) body.now.gates }
     ensures merged { IfOk result (IsMerged body.now.wires body.now.gates) }
 {

@@ -25,11 +25,11 @@ use Rattle.route_report.specs.declared.faults.Fault.TheVariants as fault
 use Rattle.route_report.specs.declared.faults.Side.{Side}
 use Rattle.route_report.specs.declared.faults.Side.TheVariants.{Source, Target, Trace}
 use Rattle.route_report.specs.declared.lines.Report.{Report}
-use Rattle.route_report.specs.Compact.{whole, wholes}
+use Rattle.route_report.specs.Compact.{json_whole, wholes}
 use Rattle.route_report.specs.Faults.{fault_line}
 use Rattle.route_report.specs.Lines.{report_line}
 use Rattle.route_report.specs.Parts.{ToldParts}
-use Rattle.route_report.specs.Refusals.{name_of, refusals, stops_with}
+use Rattle.route_report.specs.Refusals.{refusal_name, refusals, stops_with}
 
 abbrev pub in_quotes : List ℕ → List ℕ
 in_quotes text = 34 ∷ (text ++ 34 ∷ [])
@@ -52,7 +52,7 @@ found-alike f g none code default (r ∷ rows) alike =
     ≡ g (option_map_or (λ row. row.1) (cond b (Some r) (find (λ row. row.0 == code) rows)) none))
     [ true ↦ cc alike | false ↦ later ]
 
-pub compact_text-name_of : (code : ℕ) → compact_text (string (name_of code)) ≡ in_quotes (name_of code)
+pub compact_text-name_of : (code : ℕ) → compact_text (string (refusal_name code)) ≡ in_quotes (refusal_name code)
 unfolding serde_json_on_literals
 compact_text-name_of code = found-alike (λ s. compact_text (string s)) in_quotes (codes "Unknown") code refl refusals refl
 
@@ -74,8 +74,8 @@ items_text-joined data_of text_of told [] = refl
 items_text-joined data_of text_of told (x ∷ xs) =
     ap (λ t. t ++ items_text true (items_of (map data_of xs))) (told x) ∙ items_text-later data_of text_of told x xs
 
-items_text-wholes : (ns : List ℕ) → items_text false (items_of (map whole ns)) ≡ join_with_byte 44 (map decimal ns) ++ 93 ∷ []
-items_text-wholes = items_text-joined whole decimal (λ n. refl)
+items_text-wholes : (ns : List ℕ) → items_text false (items_of (map json_whole ns)) ≡ join_with_byte 44 (map decimal ns) ++ 93 ∷ []
+items_text-wholes = items_text-joined json_whole decimal (λ n. refl)
 
 items_text-lists : (nss : List (List ℕ))
     → items_text false (items_of (map wholes nss)) ≡ join_with_byte 44 (map listed nss) ++ 93 ∷ []
@@ -166,11 +166,11 @@ fault_pieces fault.Input = outside_pieces (codes "Input") 5
 fault_pieces fault.Output = outside_pieces (codes "Output") 6
 fault_pieces fault.Shelf = outside_pieces (codes "Shelf") 9
 fault_pieces fault.Absent = outside_pieces (codes "Absent") 9
-fault_pieces (fault.Plain code) = refusal_pieces code (in_quotes (name_of code)) [] []
+fault_pieces (fault.Plain code) = refusal_pieces code (in_quotes (refusal_name code)) [] []
 fault_pieces (fault.Place code place) =
-    refusal_pieces code (in_quotes (name_of code)) (codes ",\"place\":" ∷ decimal place ∷ []) []
+    refusal_pieces code (in_quotes (refusal_name code)) (codes ",\"place\":" ∷ decimal place ∷ []) []
 fault_pieces (fault.Statement code statement) =
-    refusal_pieces code (in_quotes (name_of code)) (codes ",\"statement\":" ∷ decimal statement ∷ []) []
+    refusal_pieces code (in_quotes (refusal_name code)) (codes ",\"statement\":" ∷ decimal statement ∷ []) []
 fault_pieces (fault.SelfEdge qubit) =
     codes "{\"code\":53,\"fault\":\"SelfEdge\",\"qubit\":" ∷ decimal qubit
     ∷ codes ",\"status\":4}" ∷ []
@@ -201,11 +201,11 @@ fault_pieces (fault.TooManySpares qubits spares) =
     codes "{\"code\":73,\"fault\":\"TooManySpares\",\"qubits\":" ∷ decimal qubits
     ∷ codes ",\"spares\":" ∷ decimal spares
     ∷ codes ",\"status\":3}" ∷ []
-fault_pieces (fault.TextPlain code side) = refusal_pieces code (in_quotes (name_of code)) [] (text_pieces side)
+fault_pieces (fault.TextPlain code side) = refusal_pieces code (in_quotes (refusal_name code)) [] (text_pieces side)
 fault_pieces (fault.TextPlace code place side) =
-    refusal_pieces code (in_quotes (name_of code)) (codes ",\"place\":" ∷ decimal place ∷ []) (text_pieces side)
+    refusal_pieces code (in_quotes (refusal_name code)) (codes ",\"place\":" ∷ decimal place ∷ []) (text_pieces side)
 fault_pieces (fault.TextStatement code statement side) =
-    refusal_pieces code (in_quotes (name_of code)) (codes ",\"statement\":" ∷ decimal statement ∷ []) (text_pieces side)
+    refusal_pieces code (in_quotes (refusal_name code)) (codes ",\"statement\":" ∷ decimal statement ∷ []) (text_pieces side)
 fault_pieces (fault.Trace at_line) =
     codes "{\"fault\":\"Trace\",\"line\":" ∷ decimal at_line ∷ codes ",\"status\":1}" ∷ []
 fault_pieces fault.Placed = codes "{\"fault\":\"Placed\",\"status\":1}" ∷ []
@@ -214,8 +214,8 @@ fault_pieces (fault.Edge operation) =
     codes "{\"fault\":\"Edge\",\"operation\":" ∷ decimal operation ∷ codes ",\"status\":1}" ∷ []
 
 refusal-alike : (code : ℕ) (kept behind : List (List ℕ)) →
-    concat (refusal_pieces code (compact_text (string (name_of code))) kept behind) ++ 10 ∷ []
-    ≡ concat (refusal_pieces code (in_quotes (name_of code)) kept behind) ++ 10 ∷ []
+    concat (refusal_pieces code (compact_text (string (refusal_name code))) kept behind) ++ 10 ∷ []
+    ≡ concat (refusal_pieces code (in_quotes (refusal_name code)) kept behind) ++ 10 ∷ []
 refusal-alike code kept behind =
     ap (λ name. concat (refusal_pieces code name kept behind) ++ 10 ∷ []) (compact_text-name_of code)
 

@@ -13,23 +13,23 @@ use Rattle.route_report.specs.declared.lines.Counts.{Counts}
 use Rattle.route_report.specs.declared.lines.Report.{Report}
 use Rattle.route_report.specs.declared.faults.Fault.{Fault}
 use Rattle.route_report.specs.declared.faults.Fault.TheVariants as fault
-use Rattle.route_report.specs.Compact.{whole, wholes}
+use Rattle.route_report.specs.Compact.{json_whole, wholes}
 use Rattle.route_report.specs.Faults.{fault_data}
 use Rattle.route_report.specs.Lines.{check_data, count_members, middle_members, with_cost, with_powers, with_spares}
 use Rattle.route_report.specs.Parts.{ToldParts}
 use Rattle.route_report.specs.Unplaced.{unplaced_data}
 use Rattle.route_report.specs.Verdicts.{placed_data}
 
-items_have_float-wholes : (ns : List ℕ) → items_have_float (items_of (map whole ns)) ≡ false
+items_have_float-wholes : (ns : List ℕ) → items_have_float (items_of (map json_whole ns)) ≡ false
 items_have_float-wholes [] = refl
 items_have_float-wholes (n ∷ ns) = items_have_float-wholes ns
 
 pub has_float-unplaced : (r : Report) → has_float (unplaced_data r) ≡ false
 has_float-unplaced r = go r.parts r.cost r.spares
   where
-    go : (o : Option ToldParts) (c s : Option ℕ) → has_float (object (member (codes "barriers") (whole r.barriers)
-        (with_cost c (middle_members r (with_powers o (member (codes "phase") (whole r.phase)
-        (member (codes "qubits") (whole r.qubits) (with_spares s (count_members r))))))))) ≡ false
+    go : (o : Option ToldParts) (c s : Option ℕ) → has_float (object (member (codes "barriers") (json_whole r.barriers)
+        (with_cost c (middle_members r (with_powers o (member (codes "phase") (json_whole r.phase)
+        (member (codes "qubits") (json_whole r.qubits) (with_spares s (count_members r))))))))) ≡ false
     go None None None = rw (items_have_float-wholes r.last, items_have_float-wholes r.initial) refl
     go None None (Some spares) = rw (items_have_float-wholes r.last, items_have_float-wholes r.initial) refl
     go None (Some cost) None = rw (items_have_float-wholes r.last, items_have_float-wholes r.initial) refl

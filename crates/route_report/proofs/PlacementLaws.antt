@@ -14,7 +14,7 @@ use Rattle.serde_json.specs.Data.{Data, Items, array, member, object}
 use Rattle.serde_json.specs.View.{items_of}
 use Rattle.serde_json.specs.Written.{comma_if, compact_text, items_text, members_text}
 use Rattle.route_report.specs.declared.lines.Report.{Report}
-use Rattle.route_report.specs.Compact.{line, lists, whole}
+use Rattle.route_report.specs.Compact.{line, lists, json_whole}
 use Rattle.route_report.specs.Lines.{last_members, middle_members, report_line, with_between, with_cost, with_powers}
 use Rattle.route_report.specs.Parts.{ToldParts}
 use Rattle.route_report.specs.Unplaced.{unplaced_data}
@@ -60,7 +60,7 @@ line-placed : (r : Report) (p : ToldParts) → r.parts ≡ Some p
 unfolding serde_json_on_literals
 line-placed r p is =
     let others = with_cost r.cost (middle_members r (with_powers r.parts (last_members r))) in
-    ap (λ o. line (object (member (codes "barriers") (whole r.barriers) (with_between o others)))) is
+    ap (λ o. line (object (member (codes "barriers") (json_whole r.barriers) (with_between o others)))) is
     ∙ ap (λ z. codes "{\"barriers\":" ++ z)
     (append_assoc (decimal r.barriers) (members_text true (member (codes "between") (lists p.between) others)) (10 ∷ [])
     ∙ ap (λ z. decimal r.barriers ++ (codes ",\"between\":" ++ z)) (append_assoc (compact_text (lists p.between)) (members_text true others) (10 ∷ [])))

@@ -1,5 +1,5 @@
 -- A line of JSON.
---   whole   a whole number
+--   json_whole  a whole number
 --   wholes  an array of whole numbers
 --   lists   an array of such arrays
 --   line    the text without a space, and a line break
@@ -8,11 +8,11 @@ use Rattle.serde_json.specs.Data.{Data, array, number, unsigned}
 use Rattle.serde_json.specs.View.{items_of}
 use Rattle.serde_json.specs.Written.{compact_text}
 
-abbrev pub whole : ℕ → Data
-whole n = number (unsigned n)
+abbrev pub json_whole : ℕ → Data
+json_whole n = number (unsigned n)
 
 abbrev pub wholes : List ℕ → Data
-wholes ns = array (items_of (map whole ns))
+wholes ns = array (items_of (map json_whole ns))
 
 abbrev pub lists : List (List ℕ) → Data
 lists nss = array (items_of (map wholes nss))

@@ -13,8 +13,8 @@ use Rattle.route_report.specs.declared.faults.Fault.{Fault}
 use Rattle.route_report.specs.declared.faults.Fault.TheVariants as fault
 use Rattle.route_report.specs.declared.faults.Side.{Side}
 use Rattle.route_report.specs.declared.faults.Side.TheVariants as side
-use Rattle.route_report.specs.Compact.{line, whole}
-use Rattle.route_report.specs.Refusals.{bits_length, edge_cost, initial, many_branches, name_of, not_connected, self_edge, stops_with, too_few_qubits, too_many_spares, wide_program}
+use Rattle.route_report.specs.Compact.{line, json_whole}
+use Rattle.route_report.specs.Refusals.{bits_length, edge_cost, initial, many_branches, refusal_name, not_connected, self_edge, stops_with, too_few_qubits, too_many_spares, wide_program}
 
 abbrev pub status_of : Fault → ℕ
 status_of fault.Words = 2
@@ -45,7 +45,7 @@ status_of (fault.Edge operation) = 1
 abbrev pub outside_data : List ℕ → ℕ → Data
 outside_data name status = object
     (member (codes "fault") (string name)
-    (member (codes "status") (whole status) no_members))
+    (member (codes "status") (json_whole status) no_members))
 
 abbrev pub side_word : Side → List ℕ
 side_word side.Source = codes "source"
@@ -54,23 +54,23 @@ side_word side.Trace = codes "trace"
 
 abbrev pub plain_data : ℕ → Members → Data
 plain_data code others = object
-    (member (codes "code") (whole code)
-    (member (codes "fault") (string (name_of code))
-    (member (codes "status") (whole (stops_with code)) others)))
+    (member (codes "code") (json_whole code)
+    (member (codes "fault") (string (refusal_name code))
+    (member (codes "status") (json_whole (stops_with code)) others)))
 
 abbrev pub place_data : ℕ → ℕ → Members → Data
 place_data code place others = object
-    (member (codes "code") (whole code)
-    (member (codes "fault") (string (name_of code))
-    (member (codes "place") (whole place)
-    (member (codes "status") (whole (stops_with code)) others))))
+    (member (codes "code") (json_whole code)
+    (member (codes "fault") (string (refusal_name code))
+    (member (codes "place") (json_whole place)
+    (member (codes "status") (json_whole (stops_with code)) others))))
 
 abbrev pub statement_data : ℕ → ℕ → Members → Data
 statement_data code statement others = object
-    (member (codes "code") (whole code)
-    (member (codes "fault") (string (name_of code))
-    (member (codes "statement") (whole statement)
-    (member (codes "status") (whole (stops_with code)) others))))
+    (member (codes "code") (json_whole code)
+    (member (codes "fault") (string (refusal_name code))
+    (member (codes "statement") (json_whole statement)
+    (member (codes "status") (json_whole (stops_with code)) others))))
 
 abbrev pub text_member : Side → Members
 text_member s = member (codes "text") (string (side_word s)) no_members
@@ -85,68 +85,68 @@ fault_data (fault.Plain code) = plain_data code no_members
 fault_data (fault.Place code place) = place_data code place no_members
 fault_data (fault.Statement code statement) = statement_data code statement no_members
 fault_data (fault.SelfEdge qubit) = object
-    (member (codes "code") (whole self_edge)
-    (member (codes "fault") (string (name_of self_edge))
-    (member (codes "qubit") (whole qubit)
-    (member (codes "status") (whole (stops_with self_edge)) no_members))))
+    (member (codes "code") (json_whole self_edge)
+    (member (codes "fault") (string (refusal_name self_edge))
+    (member (codes "qubit") (json_whole qubit)
+    (member (codes "status") (json_whole (stops_with self_edge)) no_members))))
 fault_data (fault.NotConnected from to) = object
-    (member (codes "code") (whole not_connected)
-    (member (codes "fault") (string (name_of not_connected))
-    (member (codes "from") (whole from)
-    (member (codes "status") (whole (stops_with not_connected))
-    (member (codes "to") (whole to) no_members)))))
+    (member (codes "code") (json_whole not_connected)
+    (member (codes "fault") (string (refusal_name not_connected))
+    (member (codes "from") (json_whole from)
+    (member (codes "status") (json_whole (stops_with not_connected))
+    (member (codes "to") (json_whole to) no_members)))))
 fault_data (fault.TooFewQubits device qubits) = object
-    (member (codes "code") (whole too_few_qubits)
-    (member (codes "device") (whole device)
-    (member (codes "fault") (string (name_of too_few_qubits))
-    (member (codes "qubits") (whole qubits)
-    (member (codes "status") (whole (stops_with too_few_qubits)) no_members)))))
+    (member (codes "code") (json_whole too_few_qubits)
+    (member (codes "device") (json_whole device)
+    (member (codes "fault") (string (refusal_name too_few_qubits))
+    (member (codes "qubits") (json_whole qubits)
+    (member (codes "status") (json_whole (stops_with too_few_qubits)) no_members)))))
 fault_data (fault.EdgeCost from to) = object
-    (member (codes "code") (whole edge_cost)
-    (member (codes "fault") (string (name_of edge_cost))
-    (member (codes "from") (whole from)
-    (member (codes "status") (whole (stops_with edge_cost))
-    (member (codes "to") (whole to) no_members)))))
+    (member (codes "code") (json_whole edge_cost)
+    (member (codes "fault") (string (refusal_name edge_cost))
+    (member (codes "from") (json_whole from)
+    (member (codes "status") (json_whole (stops_with edge_cost))
+    (member (codes "to") (json_whole to) no_members)))))
 fault_data (fault.Initial device qubits) = object
-    (member (codes "code") (whole initial)
-    (member (codes "device") (whole device)
-    (member (codes "fault") (string (name_of initial))
-    (member (codes "qubits") (whole qubits)
-    (member (codes "status") (whole (stops_with initial)) no_members)))))
+    (member (codes "code") (json_whole initial)
+    (member (codes "device") (json_whole device)
+    (member (codes "fault") (string (refusal_name initial))
+    (member (codes "qubits") (json_whole qubits)
+    (member (codes "status") (json_whole (stops_with initial)) no_members)))))
 fault_data (fault.WideProgram qubits) = object
-    (member (codes "code") (whole wide_program)
-    (member (codes "fault") (string (name_of wide_program))
-    (member (codes "qubits") (whole qubits)
-    (member (codes "status") (whole (stops_with wide_program)) no_members))))
+    (member (codes "code") (json_whole wide_program)
+    (member (codes "fault") (string (refusal_name wide_program))
+    (member (codes "qubits") (json_whole qubits)
+    (member (codes "status") (json_whole (stops_with wide_program)) no_members))))
 fault_data (fault.ManyBranches branches) = object
-    (member (codes "branches") (whole branches)
-    (member (codes "code") (whole many_branches)
-    (member (codes "fault") (string (name_of many_branches))
-    (member (codes "status") (whole (stops_with many_branches)) no_members))))
+    (member (codes "branches") (json_whole branches)
+    (member (codes "code") (json_whole many_branches)
+    (member (codes "fault") (string (refusal_name many_branches))
+    (member (codes "status") (json_whole (stops_with many_branches)) no_members))))
 fault_data (fault.BitsLength qubits) = object
-    (member (codes "code") (whole bits_length)
-    (member (codes "fault") (string (name_of bits_length))
-    (member (codes "qubits") (whole qubits)
-    (member (codes "status") (whole (stops_with bits_length)) no_members))))
+    (member (codes "code") (json_whole bits_length)
+    (member (codes "fault") (string (refusal_name bits_length))
+    (member (codes "qubits") (json_whole qubits)
+    (member (codes "status") (json_whole (stops_with bits_length)) no_members))))
 fault_data (fault.TooManySpares qubits spares) = object
-    (member (codes "code") (whole too_many_spares)
-    (member (codes "fault") (string (name_of too_many_spares))
-    (member (codes "qubits") (whole qubits)
-    (member (codes "spares") (whole spares)
-    (member (codes "status") (whole (stops_with too_many_spares)) no_members)))))
+    (member (codes "code") (json_whole too_many_spares)
+    (member (codes "fault") (string (refusal_name too_many_spares))
+    (member (codes "qubits") (json_whole qubits)
+    (member (codes "spares") (json_whole spares)
+    (member (codes "status") (json_whole (stops_with too_many_spares)) no_members)))))
 fault_data (fault.TextPlain code s) = plain_data code (text_member s)
 fault_data (fault.TextPlace code place s) = place_data code place (text_member s)
 fault_data (fault.TextStatement code statement s) = statement_data code statement (text_member s)
 fault_data (fault.Trace at_line) = object
     (member (codes "fault") (string (codes "Trace"))
-    (member (codes "line") (whole at_line)
-    (member (codes "status") (whole (status_of (fault.Trace at_line))) no_members)))
+    (member (codes "line") (json_whole at_line)
+    (member (codes "status") (json_whole (status_of (fault.Trace at_line))) no_members)))
 fault_data fault.Placed = outside_data (codes "Placed") (status_of fault.Placed)
 fault_data fault.Reads = outside_data (codes "Reads") (status_of fault.Reads)
 fault_data (fault.Edge operation) = object
     (member (codes "fault") (string (codes "Edge"))
-    (member (codes "operation") (whole operation)
-    (member (codes "status") (whole (status_of (fault.Edge operation))) no_members)))
+    (member (codes "operation") (json_whole operation)
+    (member (codes "status") (json_whole (status_of (fault.Edge operation))) no_members)))
 
 abbrev pub fault_line : Fault → List ℕ
 fault_line f = line (fault_data f)

@@ -9,7 +9,7 @@ use Rattle.std.specs.Prelude.{ℕ, List, Option, None, Some, codes}
 use Rattle.serde_json.specs.Data.{Data, Members, member, no_members, object}
 use Rattle.route_report.specs.declared.lines.Counts.{Counts}
 use Rattle.route_report.specs.declared.lines.Report.{Report}
-use Rattle.route_report.specs.Compact.{line, lists, whole, wholes}
+use Rattle.route_report.specs.Compact.{line, lists, json_whole, wholes}
 use Rattle.route_report.specs.Parts.{ToldParts}
 
 -- 4 where spare wires are told, else 3 where parts are, else 2 where costs of edges are
@@ -27,7 +27,7 @@ with_between (Some parts) others = member (codes "between") (lists parts.between
 -- .. so do the costs
 abbrev pub with_cost : Option ℕ → Members → Members
 with_cost None others = others
-with_cost (Some cost) others = member (codes "cost") (whole cost) others
+with_cost (Some cost) others = member (codes "cost") (json_whole cost) others
 
 -- .. and the powers of the parts
 abbrev pub with_powers : Option ToldParts → Members → Members
@@ -37,33 +37,33 @@ with_powers (Some parts) others = member (codes "parts") (wholes parts.powers) o
 -- .. and the spare wires
 abbrev pub with_spares : Option ℕ → Members → Members
 with_spares None others = others
-with_spares (Some spares) others = member (codes "spares") (whole spares) others
+with_spares (Some spares) others = member (codes "spares") (json_whole spares) others
 
 abbrev pub middle_members : Report → Members → Members
 middle_members r others =
-    member (codes "cx_after") (whole r.cx_after)
-    (member (codes "cx_before") (whole r.cx_before)
-    (member (codes "device") (whole r.device)
+    member (codes "cx_after") (json_whole r.cx_after)
+    (member (codes "cx_before") (json_whole r.cx_before)
+    (member (codes "device") (json_whole r.device)
     (member (codes "final") (wholes r.last)
-    (member (codes "format") (whole (format_of r.parts r.cost r.spares))
+    (member (codes "format") (json_whole (format_of r.parts r.cost r.spares))
     (member (codes "initial") (wholes r.initial)
     others)))))
 
 abbrev pub count_members : Report → Members
 count_members r =
-    member (codes "swaps") (whole r.swaps)
-    (member (codes "t_after") (whole r.t_after)
-    (member (codes "t_before") (whole r.t_before)
+    member (codes "swaps") (json_whole r.swaps)
+    (member (codes "t_after") (json_whole r.t_after)
+    (member (codes "t_before") (json_whole r.t_before)
     no_members))
 
 abbrev pub last_members : Report → Members
 last_members r =
-    member (codes "phase") (whole r.phase)
-    (member (codes "qubits") (whole r.qubits)
+    member (codes "phase") (json_whole r.phase)
+    (member (codes "qubits") (json_whole r.qubits)
     (with_spares r.spares (count_members r)))
 
 abbrev pub report_data : Report → Data
-report_data r = object (member (codes "barriers") (whole r.barriers) (with_between r.parts (with_cost r.cost
+report_data r = object (member (codes "barriers") (json_whole r.barriers) (with_between r.parts (with_cost r.cost
     (middle_members r (with_powers r.parts (last_members r))))))
 
 abbrev pub report_line : Report → List ℕ
@@ -71,13 +71,13 @@ report_line r = line (report_data r)
 
 abbrev pub check_data : Counts → Data
 check_data c = object
-    (member (codes "barriers") (whole c.barriers)
-    (member (codes "bits") (whole c.bits)
-    (member (codes "cx") (whole c.cx)
-    (member (codes "format") (whole 1)
-    (member (codes "operations") (whole c.operations)
-    (member (codes "qubits") (whole c.qubits)
-    (member (codes "t") (whole c.t)
+    (member (codes "barriers") (json_whole c.barriers)
+    (member (codes "bits") (json_whole c.bits)
+    (member (codes "cx") (json_whole c.cx)
+    (member (codes "format") (json_whole 1)
+    (member (codes "operations") (json_whole c.operations)
+    (member (codes "qubits") (json_whole c.qubits)
+    (member (codes "t") (json_whole c.t)
     no_members)))))))
 
 abbrev pub check_line : Counts → List ℕ

@@ -2,7 +2,7 @@
 --   self_edge, not_connected, too_few_qubits, edge_cost, initial, wide_program, many_branches, bits_length, too_many_spares
 --               the codes of the refusals that tell more than their code
 --   refusals    the table: code and name
---   name_of     the name of a code ("Unknown" where the table has none)
+--   refusal_name  the name of a code ("Unknown" where the table has none)
 --   stops_with  the status that a refusal ends with
 use Rattle.std.specs.Prelude.{ℕ, List, [], ◌∷◌, ◌==◌, ◌&&◌, if◌then◌else◌, codes, find, nat_le}
 use Rattle.std.specs.Option.{option_map_or}
@@ -78,8 +78,8 @@ refusals =
     (too_many_spares, codes "TooManySpares") ∷
     []
 
-abbrev pub name_of : ℕ → List ℕ
-name_of code = option_map_or (λ row. row.1) (find (λ row. row.0 == code) refusals) (codes "Unknown")
+abbrev pub refusal_name : ℕ → List ℕ
+refusal_name code = option_map_or (λ row. row.1) (find (λ row. row.0 == code) refusals) (codes "Unknown")
 
 -- those of a device's text and of a list of its qubits have codes from 50 to 58
 abbrev pub stops_with : ℕ → ℕ

@@ -5,7 +5,7 @@
 --   verdict_text told first last phase  the line of yes, and behind it, where placements are told, theirs
 use Rattle.std.specs.Prelude.{ℕ, Bool, true, false, List, [], ◌∷◌, ◌++◌, codes, decimal}
 use Rattle.serde_json.specs.Data.{Data, member, no_members, object}
-use Rattle.route_report.specs.Compact.{line, whole, wholes}
+use Rattle.route_report.specs.Compact.{line, json_whole, wholes}
 
 abbrev pub verdict_line : ℕ → List ℕ
 verdict_line phase = codes "yes " ++ (decimal phase ++ 10 ∷ [])
@@ -14,7 +14,7 @@ abbrev pub placed_data : List ℕ → List ℕ → ℕ → Data
 placed_data first last phase = object
     (member (codes "final") (wholes last)
     (member (codes "initial") (wholes first)
-    (member (codes "phase") (whole phase) no_members)))
+    (member (codes "phase") (json_whole phase) no_members)))
 
 abbrev pub placements_line : List ℕ → List ℕ → ℕ → List ℕ
 placements_line first last phase = line (placed_data first last phase)

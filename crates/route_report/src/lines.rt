@@ -3,7 +3,7 @@
 ghost use Rattle.std.specs.Prelude.{◌≡◌, IfOk, codes};
 ghost use Rattle.serde_json.specs.View.{view};
 ghost use Rattle.serde_json.specs.Data.{Members, member, object, put};
-ghost use Rattle.route_report.specs.Compact.{whole, wholes};
+ghost use Rattle.route_report.specs.Compact.{json_whole, wholes};
 ghost use Rattle.route_report.specs.Lines.{check_data, count_members, format_of, last_members, middle_members, with_cost};
 ghost use Rattle.route_report.specs.Unplaced.{unplaced_data};
 
@@ -96,9 +96,9 @@ fn format_number(report: &Report) -> u8
 
 /// The JSON object of a report but for its spare wires, costs and parts.
 fn spareless_value(alloc: Global, report: &Report) -> Result<Value, AllocError>
-    ensures { IfOk result (λ v. view v ≡ object (member (codes "barriers") (whole report.now.barriers)
-        (middle_members report.now (member (codes "phase") (whole report.now.phase)
-        (member (codes "qubits") (whole report.now.qubits) (count_members report.now)))))) }
+    ensures { IfOk result (λ v. view v ≡ object (member (codes "barriers") (json_whole report.now.barriers)
+        (middle_members report.now (member (codes "phase") (json_whole report.now.phase)
+        (member (codes "qubits") (json_whole report.now.qubits) (count_members report.now)))))) }
 {
     let last = number_array(alloc, report.last.as_slice())?;
     let initial = number_array(alloc, report.initial.as_slice())?;
@@ -121,7 +121,7 @@ fn spareless_value(alloc: Global, report: &Report) -> Result<Value, AllocError>
 
 /// The JSON object of a report but for its costs and parts.
 fn costless_value(alloc: Global, report: &Report) -> Result<Value, AllocError>
-    ensures { IfOk result (λ v. view v ≡ object (member (codes "barriers") (whole report.now.barriers)
+    ensures { IfOk result (λ v. view v ≡ object (member (codes "barriers") (json_whole report.now.barriers)
         (middle_members report.now (last_members report.now)))) }
 {
     let value = spareless_value(alloc, report)?;
@@ -133,7 +133,7 @@ fn costless_value(alloc: Global, report: &Report) -> Result<Value, AllocError>
 
 /// The JSON object of a report but for its parts.
 fn partless_value(alloc: Global, report: &Report) -> Result<Value, AllocError>
-    ensures { IfOk result (λ v. view v ≡ object (member (codes "barriers") (whole report.now.barriers)
+    ensures { IfOk result (λ v. view v ≡ object (member (codes "barriers") (json_whole report.now.barriers)
         (with_cost report.now.cost (middle_members report.now (last_members report.now))))) }
 {
     let value = costless_value(alloc, report)?;

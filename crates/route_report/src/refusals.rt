@@ -2,7 +2,7 @@
 
 ghost use Rattle.std.specs.Prelude.{◌≡◌};
 ghost use Rattle.exit_status.specs.Statuses.{status_with};
-ghost use Rattle.route_report.specs.Refusals.{name_of, stops_with};
+ghost use Rattle.route_report.specs.Refusals.{refusal_name, stops_with};
 
 use exit_status::{Exit, exit_status};
 
@@ -26,7 +26,7 @@ pub(crate) const TOO_MANY_SPARES: u8 = 73;
 
 /// The name of a refusal.
 pub(crate) fn refusal_name(code: u8) -> &'static str
-    ensures value { result.now ≡ name_of code }
+    ensures value { result.now ≡ refusal_name code }
 {
     match code {
         10 => "BadByte",

@@ -19,12 +19,12 @@ use Rattle.coupling_map.specs.Walks.{is_edge, is_near}
 use Rattle.sabre_route.specs.Ahead.{Ahead}
 use Rattle.sabre_route.specs.Emission.{cx_gates, cx_turn, emitted, emitted_turn, low_order, swap_gates, swap_turn}
 use Rattle.sabre_route.specs.Machine.{Event, Emit as EmitEvent, Swap as SwapEvent, IsChosen, Run, State as Machine, emission, exchange}
-use Rattle.sabre_route.specs.Routing.{turned, written}
+use Rattle.sabre_route.specs.Routing.{turn_sum, written_gates}
 use Rattle.sabre_route.specs.Search.{is_free, shares}
 use Rattle.sabre_route.specs.Telling.{told}
 use Rattle.sabre_route.proofs.EmissionLaws.{low_order-is}
 use Rattle.trace_model.specs.Lines.{Line, Emit, Back, Swap, Turn}
-use Rattle.trace_model.specs.Proves.{Claim, IsFirst, Routed, Runs, State, on_qubits, swap_cx, turn_cx, turned_cx}
+use Rattle.trace_model.specs.Proves.{Claim, IsFirst, Routed, Runs, ProofState, on_qubits, swap_cx, swap_reversed_cx, reversed_cx}
 use Rattle.unitary_model.specs.Placement.{exchanged}
 use Rattle.unitary_model.proofs.ReachedLaws.{exchanged-comm}
 use Rattle.route_trace.specs.EventLines.{AreThere, emitted_line, event_lines, swapped_line}
@@ -63,13 +63,13 @@ free-first gs j g e h =
     record { there = e; first = λ k lt. none-before (first_wire g) gs j k n.0 lt; second = λ k lt. none-before (second_wire g) gs j k n.1 lt }
 
 -- ---- the lines
-abbrev pub at : List ℕ → List ℕ → List Gate → List Gate → ℕ → State
+abbrev pub at : List ℕ → List ℕ → List Gate → List Gate → ℕ → ProofState
 at p q gs w t = Routed (record { first = p; now = q; rest = gs; written = w; turn = t })
 
 same-turn : (t : ℕ) → t < 8 → (t + 0) % 8 ≡ t
 same-turn t lt = omega arith
 
-one-emit : (e : Claim) (p q : List ℕ) (gs w : List Gate) (t j : ℕ) (g : Gate) (ls : List Line) (behind : List (List ℕ)) (u : State) → t < 8 → j < 2 ^ 32 → IsFirst gs j g →
+one-emit : (e : Claim) (p q : List ℕ) (gs w : List Gate) (t j : ℕ) (g : Gate) (ls : List Line) (behind : List (List ℕ)) (u : ProofState) → t < 8 → j < 2 ^ 32 → IsFirst gs j g →
     Runs e 1 (at p q (remove gs j) (w ++ on_qubits q g ∷ []) ((t + 0) % 8)) ls behind u → Runs e 1 (at p q gs w t) (Emit j ∷ ls) behind u
 one-emit e p q gs w t j g ls behind u lt small first r = (
   at p q (remove gs j) (w ++ on_qubits q g ∷ []) ((t + 0) % 8),
@@ -79,20 +79,20 @@ one-emit e p q gs w t j g ls behind u lt small first r = (
   ),
 )
 
-one-back : (e : Claim) (p q : List ℕ) (gs w : List Gate) (t j c s : ℕ) (ls : List Line) (behind : List (List ℕ)) (u : State) → j < 2 ^ 32 → IsFirst gs j (Cx c s) →
-    Runs e 1 (at p q (remove gs j) (w ++ turned_cx (slice_index q c) (slice_index q s)) ((t + 4) % 8)) ls behind u → Runs e 1 (at p q gs w t) (Back j ∷ ls) behind u
+one-back : (e : Claim) (p q : List ℕ) (gs w : List Gate) (t j c s : ℕ) (ls : List Line) (behind : List (List ℕ)) (u : ProofState) → j < 2 ^ 32 → IsFirst gs j (Cx c s) →
+    Runs e 1 (at p q (remove gs j) (w ++ reversed_cx (slice_index q c) (slice_index q s)) ((t + 4) % 8)) ls behind u → Runs e 1 (at p q gs w t) (Back j ∷ ls) behind u
 one-back e p q gs w t j c s ls behind u small first r = (
-  at p q (remove gs j) (w ++ turned_cx (slice_index q c) (slice_index q s)) ((t + 4) % 8),
+  at p q (remove gs j) (w ++ reversed_cx (slice_index q c) (slice_index q s)) ((t + 4) % 8),
   ((All-from_recursion (λ k. k < 2 ^ 32) (j ∷ []) (small, tt), tt), (record { c = c; t = s; first = first; after = refl }, r)),
 )
 
-cx-run : (e : Claim) (p q : List ℕ) (gs w : List Gate) (t j c s : ℕ) (ls : List Line) (behind : List (List ℕ)) (u : State) → t < 8 → j < 2 ^ 32 → IsFirst gs j (Cx c s) → (b : Bool) →
-    Runs e 1 (at p q (remove gs j) (w ++ cond b (Cx (slice_index q c) (slice_index q s) ∷ []) (turned_cx (slice_index q c) (slice_index q s))) ((t + cond b 0 4) % 8)) ls behind u →
+cx-run : (e : Claim) (p q : List ℕ) (gs w : List Gate) (t j c s : ℕ) (ls : List Line) (behind : List (List ℕ)) (u : ProofState) → t < 8 → j < 2 ^ 32 → IsFirst gs j (Cx c s) → (b : Bool) →
+    Runs e 1 (at p q (remove gs j) (w ++ cond b (Cx (slice_index q c) (slice_index q s) ∷ []) (reversed_cx (slice_index q c) (slice_index q s))) ((t + cond b 0 4) % 8)) ls behind u →
     Runs e 1 (at p q gs w t) (cond b (Emit j) (Back j) ∷ ls) behind u
 cx-run e p q gs w t j c s ls behind u lt small first true r = one-emit e p q gs w t j (Cx c s) ls behind u lt small first r
 cx-run e p q gs w t j c s ls behind u lt small first false r = one-back e p q gs w t j c s ls behind u small first r
 
-emit-run : (e : Claim) (es : List (ℕ × ℕ)) (p q : List ℕ) (gs w : List Gate) (t j : ℕ) (g : Gate) (ls : List Line) (behind : List (List ℕ)) (u : State) → t < 8 → j < 2 ^ 32 → IsFirst gs j g →
+emit-run : (e : Claim) (es : List (ℕ × ℕ)) (p q : List ℕ) (gs w : List Gate) (t j : ℕ) (g : Gate) (ls : List Line) (behind : List (List ℕ)) (u : ProofState) → t < 8 → j < 2 ^ 32 → IsFirst gs j g →
     Runs e 1 (at p q (remove gs j) (w ++ emitted es q g) ((t + emitted_turn es q g) % 8)) ls behind u → Runs e 1 (at p q gs w t) (emitted_line es q (Some g) j ∷ ls) behind u
 unfolding emitted emitted_turn cx_gates cx_turn
 emit-run e es p q gs w t j (H v) ls behind u lt small first r = one-emit e p q gs w t j (H v) ls behind u lt small first r
@@ -100,7 +100,7 @@ emit-run e es p q gs w t j (X v) ls behind u lt small first r = one-emit e p q g
 emit-run e es p q gs w t j (P k v) ls behind u lt small first r = one-emit e p q gs w t j (P k v) ls behind u lt small first r
 emit-run e es p q gs w t j (Cx c s) ls behind u lt small first r = cx-run e p q gs w t j c s ls behind u lt small first (is_edge es (slice_index q c) (slice_index q s)) r
 
-one-swap : (e : Claim) (p q : List ℕ) (gs w : List Gate) (t a b x y : ℕ) (ls : List Line) (behind : List (List ℕ)) (u : State) → e.qubits ≤ 2 ^ 32 → x < e.qubits → y < e.qubits → x ≢ y → exchanged x y ≡ exchanged a b → (s : Bool) →
+one-swap : (e : Claim) (p q : List ℕ) (gs w : List Gate) (t a b x y : ℕ) (ls : List Line) (behind : List (List ℕ)) (u : ProofState) → e.qubits ≤ 2 ^ 32 → x < e.qubits → y < e.qubits → x ≢ y → exchanged x y ≡ exchanged a b → (s : Bool) →
     Runs e 1 (at p (map (exchanged a b) q) gs (w ++ (Cx x y ∷ (cond s (Cx y x ∷ []) (H y ∷ H x ∷ Cx x y ∷ H y ∷ H x ∷ []) ++ Cx x y ∷ []))) ((t + cond s 0 4) % 8)) ls behind u →
     Runs e 1 (at p q gs w t) (cond s (Swap x y) (Turn x y) ∷ ls) behind u
 one-swap e p q gs w t a b x y ls behind u le hx hy ne f true r = (
@@ -111,10 +111,10 @@ one-swap e p q gs w t a b x y ls behind u le hx hy ne f true r = (
   ),
 )
 one-swap e p q gs w t a b x y ls behind u le hx hy ne f false r = (
-  at p (map (exchanged a b) q) gs (w ++ turn_cx x y) ((t + 4) % 8),
+  at p (map (exchanged a b) q) gs (w ++ swap_reversed_cx x y) ((t + 4) % 8),
   (
     (All-from_recursion (λ k. k < 2 ^ 32) (x ∷ y ∷ []) (omega (arith, le, hx), (omega (arith, le, hy), tt)), tt),
-    (record { first = hx; second = hy; differ = ne; after = λ i. at p (map (sym f i) q) gs (w ++ turn_cx x y) ((t + 4) % 8) }, r),
+    (record { first = hx; second = hy; differ = ne; after = λ i. at p (map (sym f i) q) gs (w ++ swap_reversed_cx x y) ((t + 4) % 8) }, r),
   ),
 )
 
@@ -128,7 +128,7 @@ pair : (n a b x y : ℕ) → a < n → b < n → a ≢ b → ((x ≡ a) × (y �
 pair n a b x y ha hb ne (inl (e, f)) = record { first = omega (arith, e, ha); second = omega (arith, f, hb); differ = λ d. ne (sym e ∙ d ∙ f); same = λ z. exchanged (e z) (f z) }
 pair n a b x y ha hb ne (inr (e, f)) = record { first = omega (arith, e, hb); second = omega (arith, f, ha); differ = λ d. ne (sym f ∙ sym d ∙ e); same = (λ z. exchanged (e z) (f z)) ∙ exchanged-comm b a }
 
-swap-run : (e : Claim) (es : List (ℕ × ℕ)) (p q : List ℕ) (gs w : List Gate) (t a b : ℕ) (ls : List Line) (behind : List (List ℕ)) (u : State) → e.qubits ≤ 2 ^ 32 → a < e.qubits → b < e.qubits → a ≢ b → is_near es a b ≡ true →
+swap-run : (e : Claim) (es : List (ℕ × ℕ)) (p q : List ℕ) (gs w : List Gate) (t a b : ℕ) (ls : List Line) (behind : List (List ℕ)) (u : ProofState) → e.qubits ≤ 2 ^ 32 → a < e.qubits → b < e.qubits → a ≢ b → is_near es a b ≡ true →
     Runs e 1 (at p (map (exchanged a b) q) gs (w ++ swap_gates es a b) ((t + swap_turn es a b) % 8)) ls behind u → Runs e 1 (at p q gs w t) (swapped_line es a b ∷ ls) behind u
 unfolding swap_gates swap_turn cx_gates cx_turn
 swap-run e es p q gs w t a b ls behind u le ha hb ne near r =
@@ -145,14 +145,14 @@ chosen-near ahead d s a b (inr h) = h.1.toward.near
 mod-more : (k a b : ℕ) → ((k + a) % 8 + b) % 8 ≡ (k + (a + b)) % 8
 mod-more k a b = grind arith
 
-grouped : (e : Claim) (p q : List ℕ) (gs w x y : List Gate) (t a b : ℕ) (ls : List Line) (behind : List (List ℕ)) (u : State) → Runs e 1 (at p q gs (w ++ (x ++ y)) ((t + (a + b)) % 8)) ls behind u →
+grouped : (e : Claim) (p q : List ℕ) (gs w x y : List Gate) (t a b : ℕ) (ls : List Line) (behind : List (List ℕ)) (u : ProofState) → Runs e 1 (at p q gs (w ++ (x ++ y)) ((t + (a + b)) % 8)) ls behind u →
     Runs e 1 (at p q gs ((w ++ x) ++ y) (((t + a) % 8 + b) % 8)) ls behind u
 grouped e p q gs w x y t a b ls behind u r =
     subst (λ (v : List Gate). Runs e 1 (at p q gs v (((t + a) % 8 + b) % 8)) ls behind u) (sym (append_assoc w x y))
     (subst (λ (k : ℕ). Runs e 1 (at p q gs (w ++ (x ++ y)) k) ls behind u) (sym (mod-more t a b)) r)
 
-pub events-run : (ahead : Ahead) (e : Claim) (d : Coupling) (s u : Machine) (xs : List Event) (p : List ℕ) (w : List Gate) (t : ℕ) (ls : List Line) (behind : List (List ℕ)) (z : State) → Near d → e.qubits ≡ d.size → d.size ≤ 2 ^ 32 → length s.rest ≤ 2 ^ 32 → t < 8 →
-    Run ahead d s xs u → Runs e 1 (at p u.placement u.rest (w ++ written d.edges s.placement xs) ((t + turned d.edges s.placement xs) % 8)) ls behind z →
+pub events-run : (ahead : Ahead) (e : Claim) (d : Coupling) (s u : Machine) (xs : List Event) (p : List ℕ) (w : List Gate) (t : ℕ) (ls : List Line) (behind : List (List ℕ)) (z : ProofState) → Near d → e.qubits ≡ d.size → d.size ≤ 2 ^ 32 → length s.rest ≤ 2 ^ 32 → t < 8 →
+    Run ahead d s xs u → Runs e 1 (at p u.placement u.rest (w ++ written_gates d.edges s.placement xs) ((t + turn_sum d.edges s.placement xs) % 8)) ls behind z →
     Runs e 1 (at p s.placement s.rest w t) (event_lines d.edges s.placement s.rest (map told xs) ++ ls) behind z
 unfolding emission exchange
 events-run ahead e d s u [] p w t ls behind z near eq le lr lt h r =
@@ -172,7 +172,7 @@ events-run ahead e d s u (EmitEvent j g ∷ xs) p w t ls behind z near eq le lr 
     (emit-run e es p q s.rest w t j g rest behind z lt small (free-first s.rest j g can.there can.first)
     (events-run ahead e d m u xs p (w ++ v) ((t + k) % 8) ls behind z near eq le (omega (arith, lr, remove-short s.rest j)) (omega arith)
     (subst (λ (x : Machine). Run ahead d x xs u) h.1.after h.2)
-    (grouped e p u.placement u.rest w v (written es q xs) t k (turned es q xs) ls behind z r)))
+    (grouped e p u.placement u.rest w v (written_gates es q xs) t k (turn_sum es q xs) ls behind z r)))
 events-run ahead e d s u (SwapEvent a b ∷ xs) p w t ls behind z near eq le lr lt h r =
     let es = d.edges in
     let q : List ℕ = map (exchanged a b) s.placement in
@@ -185,7 +185,7 @@ events-run ahead e d s u (SwapEvent a b ∷ xs) p w t ls behind z near eq le lr 
     swap-run e es p s.placement s.rest w t a b rest behind z (omega (arith, eq, le)) (omega (arith, eq, on.0)) (omega (arith, eq, on.1)) on.2 n
     (events-run ahead e d m u xs p (w ++ v) ((t + k) % 8) ls behind z near eq le lr (omega arith)
     (subst (λ (x : Machine). Run ahead d x xs u) h.1.after h.2)
-    (grouped e p u.placement u.rest w v (written es q xs) t k (turned es q xs) ls behind z r))
+    (grouped e p u.placement u.rest w v (written_gates es q xs) t k (turn_sum es q xs) ls behind z r))
 
 pub run-there : (ahead : Ahead) (d : Coupling) (s u : Machine) (xs : List Event) → Near d → Run ahead d s xs u → AreThere d.size s.rest (map told xs)
 unfolding emission exchange

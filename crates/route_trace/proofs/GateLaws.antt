@@ -10,12 +10,12 @@ use Rattle.std.proofs.lemmas.List.Sums.{sum_by-cons}
 use Rattle.circuit_list.specs.declared.Gate.{Gate}
 use Rattle.circuit_list.specs.declared.Gate.TheVariants.{H, X, P, Cx}
 use Rattle.circuit_list.specs.Gates.{IsFine, op_of, ops}
-use Rattle.gate_expand.specs.Expansion.{expanded, gates_of, op_turn, phase, turn_of}
+use Rattle.gate_expand.specs.Expansion.{expanded, gates_of, op_turn, phase_gate, turn_of}
 use Rattle.unitary_model.specs.declared.Op.{Op}
 use Rattle.unitary_model.specs.declared.Op.TheVariants.{U, Cx as OpCx}
 
 -- ---- fine gates
-some-phase : (m k q : ℕ) → m % 8 ≡ k → 0 < k → phase m q ≡ P k q ∷ []
+some-phase : (m k q : ℕ) → m % 8 ≡ k → 0 < k → phase_gate m q ≡ P k q ∷ []
 some-phase m k q e lt = λ i. cond (more i) [] (P (e i) q ∷ [])
   where
     more : (m % 8 == 0) ≡ false
@@ -45,22 +45,22 @@ pub turn-ops : (gs : List Gate) → turn_of (ops gs) ≡ 0
 turn-ops gs = ap (λ k. k % 8) (turns-ops gs)
 
 -- ---- how many gates
-phase-short : (k q : ℕ) → length (phase k q) ≤ 1
+phase-short : (k q : ℕ) → length (phase_gate k q) ≤ 1
 phase-short k q = go (k % 8 == 0)
   where
     go : (b : Bool) → length (cond b [] (P (k % 8) q ∷ [])) ≤ 1
     go true = omega arith
     go false = omega arith
 
-around-short : (j k q : ℕ) (gs : List Gate) → length gs ≤ 3 → length (phase j q ++ (gs ++ phase k q)) ≤ 5
-around-short j k q gs h = omega (arith, h, length-append (phase j q) (gs ++ phase k q), length-append gs (phase k q), phase-short j q, phase-short k q)
+around-short : (j k q : ℕ) (gs : List Gate) → length gs ≤ 3 → length (phase_gate j q ++ (gs ++ phase_gate k q)) ≤ 5
+around-short j k q gs h = omega (arith, h, length-append (phase_gate j q) (gs ++ phase_gate k q), length-append gs (phase_gate k q), phase-short j q, phase-short k q)
 
 gates-short : (u : Op) → length (gates_of u) ≤ 5
 gates-short (OpCx c t) = omega arith
 gates-short (U a b c q) = go (a == 0) (a == 2) (a == 4) (a == 6)
   where
-    go : (x y z w : Bool) → length (cond x (phase (b + c) q) (cond y (phase (c + 4) q ++ H q ∷ phase b q) (cond z (phase (c + 4) q ++ X q ∷ phase b q)
-        (cond w (phase c q ++ H q ∷ phase (b + 4) q) (phase (c + 6) q ++ H q ∷ P a q ∷ H q ∷ phase (b + 2) q))))) ≤ 5
+    go : (x y z w : Bool) → length (cond x (phase_gate (b + c) q) (cond y (phase_gate (c + 4) q ++ H q ∷ phase_gate b q) (cond z (phase_gate (c + 4) q ++ X q ∷ phase_gate b q)
+        (cond w (phase_gate c q ++ H q ∷ phase_gate (b + 4) q) (phase_gate (c + 6) q ++ H q ∷ P a q ∷ H q ∷ phase_gate (b + 2) q))))) ≤ 5
     go true y z w = omega (arith, phase-short (b + c) q)
     go false true z w = around-short (c + 4) b q (H q ∷ []) (omega arith)
     go false false true w = around-short (c + 4) b q (X q ∷ []) (omega arith)

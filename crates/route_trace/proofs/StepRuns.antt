@@ -18,7 +18,7 @@ use Rattle.trace_text.specs.Texts.{ended}
 use Rattle.rewrite_pass.specs.Windows.{IsWindow, HadSHad, HadSdgHad, HadZHad, HadXHad, FourHads, SCxSdg, SdgCxS}
 use Rattle.rewrite_pass.proofs.EditLaws.{changed_short}
 use Rattle.trace_model.specs.Lines.{Line, Rewrite}
-use Rattle.trace_model.specs.Proves.{Claim, Rewritten, Runs, State}
+use Rattle.trace_model.specs.Proves.{Claim, Rewritten, Runs, ProofState}
 use Rattle.trace_model.specs.Spelling.{AreSmall}
 use Rattle.route_trace.proofs.TextLaws.{ended-append}
 
@@ -110,7 +110,7 @@ none-turned j t lt e = omega arith
 turned-twice : (j f r t : ℕ) → t ≡ (f + r) % 8 → (j + t) % 8 ≡ ((j + f) % 8 + r) % 8
 turned-twice j f r t e = omega arith
 
-pub steps-run : (e : Claim) (B : ℕ) (old new : List Gate) (ss : List Step) (j t : ℕ) (ls : List Line) (behind : List (List ℕ)) (u : State) → e.wires ≤ 2 ^ 32 → B < 2 ^ 32 → length old ≤ B → length (steps_text ss) ≤ B → j < 8 →
+pub steps-run : (e : Claim) (B : ℕ) (old new : List Gate) (ss : List Step) (j t : ℕ) (ls : List Line) (behind : List (List ℕ)) (u : ProofState) → e.wires ≤ 2 ^ 32 → B < 2 ^ 32 → length old ≤ B → length (steps_text ss) ≤ B → j < 8 →
     AreSteps e.wires old ss new t → (length new ≤ B → Runs e 1 (Rewritten new ((j + t) % 8)) ls behind u) → Runs e 1 (Rewritten old j) (map (λ s. Rewrite s) ss ++ ls) behind u
 steps-run e B old new [] j t ls behind u ln lb lo ll lj h r =
     subst (λ (gs : List Gate). Runs e 1 (Rewritten gs j) ls behind u) h.0

@@ -19,11 +19,11 @@ use Rattle.sabre_route.specs.Ahead.{Ahead}
 use Rattle.sabre_route.specs.declared.events.Event.{Event as Told}
 use Rattle.sabre_route.specs.declared.router.Routed.{Routed as Router}
 use Rattle.sabre_route.specs.Machine.{start}
-use Rattle.sabre_route.specs.Routing.{turned, written}
+use Rattle.sabre_route.specs.Routing.{turn_sum, written_gates}
 use Rattle.sabre_route.specs.Telling.{IsRoutedBy}
 use Rattle.trace_model.specs.Lines.{Line, Rewrite, Place, End, IsSmall, all_spelt, edition_of, spelt}
 use Rattle.trace_model.proofs.EditionLaws.{edition-first}
-use Rattle.trace_model.specs.Proves.{Claim, Proved, Proves, Rewritten, Runs, State, Unread}
+use Rattle.trace_model.specs.Proves.{Claim, Proved, Proves, Rewritten, Runs, ProofState, Unread}
 use Rattle.trace_text.specs.Texts.{ended, lines_of}
 use Rattle.unitary_model.specs.Placement.{IsPlacement}
 use Rattle.route_trace.specs.EventLines.{event_lines, trace_lines}
@@ -73,7 +73,7 @@ steps-within ss p ls j =
     omega (arith, ap length (bytes-of ss p ls j), length-append head (steps_text ss ++ rest), length-append (steps_text ss) rest)
 
 -- ---- lines are small
-runs-small : (e : Claim) (s : State) (ls : List Line) (behind : List (List ℕ)) (u : State) → Runs e 1 s ls behind u → AllByRecursion IsSmall ls
+runs-small : (e : Claim) (s : ProofState) (ls : List Line) (behind : List (List ℕ)) (u : ProofState) → Runs e 1 s ls behind u → AllByRecursion IsSmall ls
 runs-small e s [] behind u h = tt
 runs-small e s (l ∷ ls) behind u h = (h.1.0.0, runs-small e h.0 ls behind u h.1.1.1)
 
@@ -121,12 +121,12 @@ trace-runs ahead d ss n m B gs given r xs turn near le fits placed fine h lt few
     let run = h.routed in
     let es = d.edges in
     let ls : List Line = event_lines es given gs xs in
-    let z : State = Proved given r.last turn in
-    let more : ℕ = (j + turned es given run.events) % 8 in
+    let z : ProofState = Proved given r.last turn in
+    let more : ℕ = (j + turn_sum es given run.events) % 8 in
     let small : AllByRecursion (λ k. k < 2 ^ 32) given = entries-small given (λ i l. omega (arith, le, placed.within i (omega (arith, l, placed.long)))) in
     let fit : IsPlacement e.qubits given = subst (λ (k : ℕ). IsPlacement k given) (sym qubits) placed in
-    let last : Runs e 1 (at given run.final.placement run.final.rest ([] ++ written es given run.events) more) (End turn ∷ []) [] z =
-    end-run e given run.final.placement r.last run.final.rest (written es given run.events) r.body.gates m more turn fine run.run.ends (sym run.body) target (whole-turn f t (turned es given run.events) r.turn turn run.turn whole) lt (sym run.last) in (
+    let last : Runs e 1 (at given run.final.placement run.final.rest ([] ++ written_gates es given run.events) more) (End turn ∷ []) [] z =
+    end-run e given run.final.placement r.last run.final.rest (written_gates es given run.events) r.body.gates m more turn fine run.run.ends (sym run.body) target (whole-turn f t (turn_sum es given run.events) r.turn turn run.turn whole) lt (sym run.last) in (
       Rewritten (expanded e.source) f,
       (
         (All-from_recursion (λ k. k < 2 ^ 32) (1 ∷ []) (omega arith, tt), refl),

@@ -3,7 +3,7 @@
 --     line_of l               the line that the code's is
 --     emitted_line es q o j   the line of the gate o, which stood at place j and is emitted, where the wires stand at q on a device with
 --                             the edges es
---     turned_line es u v      the line of a swap whose first CNOT is from u to v;  swapped_line es a b: of a swap of a and b
+--     ordered_swap_line es u v  the line of a swap whose first CNOT is from u to v;  swapped_line es a b: of a swap of a and b
 --     placed_by q x           where the wires stand behind the event x;  left_by gs x: the gates that are left
 --     event_line es q gs x    the line of an event, where the gates gs are left;  event_lines: of one after the other
 --     IsThere n gs x          the place of an event is one of the gates gs, and its qubits are below n;  AreThere: of one after the other
@@ -34,11 +34,11 @@ emitted_line es q (Some (X w)) j = Emit j
 emitted_line es q (Some (P k w)) j = Emit j
 emitted_line es q (Some (Cx c t)) j = if is_edge es (slice_index q c) (slice_index q t) then Emit j else Back j
 
-abbrev pub turned_line : List (ℕ × ℕ) → ℕ → ℕ → Line
-turned_line es u v = if is_edge es v u then Swap u v else Turn u v
+abbrev pub ordered_swap_line : List (ℕ × ℕ) → ℕ → ℕ → Line
+ordered_swap_line es u v = if is_edge es v u then Swap u v else Turn u v
 
 abbrev pub swapped_line : List (ℕ × ℕ) → ℕ → ℕ → Line
-swapped_line es a b = turned_line es (low_order es a b).0 (low_order es a b).1
+swapped_line es a b = ordered_swap_line es (low_order es a b).0 (low_order es a b).1
 
 abbrev pub placed_by : List ℕ → Told → List ℕ
 placed_by q (ToldEmit j) = q

@@ -16,10 +16,10 @@ use Rattle.coupling_map.specs.Edges.{FollowsEdge, FollowsEdges}
 use Rattle.coupling_map.specs.Walks.{IsDiameter}
 use Rattle.program_parts.specs.Parts.{Part}
 use Rattle.rewrite_pass.specs.Law.{KeepsCnots}
-use Rattle.routed_parts.specs.Legs.{IsCleaned, IsLeg}
+use Rattle.routed_parts.specs.RoutedParts.{IsCleaned, IsPartOnDevice}
 use Rattle.routed_parts.specs.Runs.{IsLeft}
 use Rattle.routed_parts.specs.Settled.{IsSettled}
-use Rattle.sabre_route.specs.Measures.{bound}
+use Rattle.sabre_route.specs.Measures.{swap_bound}
 use Rattle.sabre_route.specs.declared.router.Routed.{Routed}
 use Rattle.unitary_model.specs.declared.Op.{Op}
 use Rattle.unitary_model.specs.Amplitude.{amplitude}
@@ -122,9 +122,9 @@ pub IsLeg-run : (d : Coupling) (clean : Bool) (n : ℕ) (first : List ℕ) (p : 
     → Realises (ops gates) n (ops r.body.gates) d.size first r.last r.turn
     → FollowsEdges d.edges (ops r.body.gates) → t_count (ops r.body.gates) ≡ t_count (ops gates)
     → cx_count (ops r.body.gates) ≡ cx_count (ops gates) + 3 * r.swaps
-    → ((m : ℕ) → IsDiameter d.size d.edges (cost d) m → r.swaps ≤ cx_count (ops gates) * bound d m)
+    → ((m : ℕ) → IsDiameter d.size d.edges (cost d) m → r.swaps ≤ cx_count (ops gates) * swap_bound d m)
     → IsCleaned clean d.size r.body.gates left k → p.target ≡ ops left → p.last ≡ r.last → p.swaps ≡ r.swaps → p.power ≡ ((turn + r.turn) % 8 + k) % 8
-    → IsLeg d clean n first p gates r
+    → IsPartOnDevice d clean n first p gates r
 IsLeg-run d clean n first p gates turn k left r fine settled stands t_gates cx_gates realises edges
     same_t more_cx few cleaned target last swaps power =
     let ws = r.body.gates in
@@ -147,7 +147,7 @@ IsLeg-run d clean n first p gates turn k left r fine settled stands t_gates cx_g
       edges = subst (λ (us : List Op). FollowsEdges d.edges us) (sym target) left_edges;
       t_gates = rw target (omega (arith, fewer_t, same_t, t_gates));
       cx_gates = rw (target, swaps) (omega (arith, fewer_cx, more_cx, cx_gates));
-      few_swaps = λ m is. rw swaps (above (cx_count p.source) (cx_count (ops gates)) (bound d m) r.swaps cx_gates (few m is));
+      few_swaps = λ m is. rw swaps (above (cx_count p.source) (cx_count (ops gates)) (swap_bound d m) r.swaps cx_gates (few m is));
     }
   where
     above : (a b m s : ℕ) → b ≤ a → s ≤ b * m → s ≤ a * m

@@ -11,7 +11,7 @@ use Rattle.coupling_map.specs.Coupling.{Coupling, IsCoupling}
 use Rattle.program_parts.specs.Cuts.{whole}
 use Rattle.sabre_route.specs.Ahead.{Ahead}
 use Rattle.sabre_route.specs.Machine.{Event, IsRun, State, start}
-use Rattle.sabre_route.specs.Routing.{IsLayout, IsRouted, swap_count, written}
+use Rattle.sabre_route.specs.Routing.{IsLayout, IsRouted, swap_count, written_gates}
 use Rattle.sabre_route.specs.declared.router.Routed.{Routed}
 use Rattle.wire_starts.specs.Starts.{IsTryStart}
 use Rattle.routed_parts.specs.Costs.{cx_cost}
@@ -35,7 +35,7 @@ routed-one one ahead d gs given r x f g =
     let same : f.events ≡ g.events = one.events ahead d (start given gs) f.final g.final f.events g.events f.run g.run in
     let end : f.final ≡ g.final = one.end ahead d (start given gs) f.final g.final f.events g.events f.run g.run in
     record {
-      body = f.body ∙ ap (written d.edges given) same ∙ sym g.body;
+      body = f.body ∙ ap (written_gates d.edges given) same ∙ sym g.body;
       last = f.last ∙ ap (λ (s : State). s.placement) end ∙ sym g.last;
       swaps = f.swaps ∙ ap swap_count same ∙ sym g.swaps;
     }

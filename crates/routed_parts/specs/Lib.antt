@@ -3,4 +3,4 @@ pub mod Settled
 pub mod Costs
 pub mod Tries
 pub mod Runs
-pub mod Legs
+pub mod RoutedParts

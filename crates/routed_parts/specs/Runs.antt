@@ -17,7 +17,7 @@ use Rattle.coupling_map.specs.Coupling.{Coupling, cost}
 use Rattle.coupling_map.specs.Walks.{IsDiameter}
 use Rattle.program_parts.specs.Parts.{Part}
 use Rattle.rewrite_pass.specs.Law.{KeepsCnots}
-use Rattle.sabre_route.specs.Measures.{bound}
+use Rattle.sabre_route.specs.Measures.{swap_bound}
 use Rattle.sabre_route.specs.declared.router.Routed.{Routed}
 use Rattle.unitary_model.specs.declared.Op.{Op}
 use Rattle.unitary_model.specs.Operations.{cx_count}
@@ -26,7 +26,7 @@ use Rattle.unitary_model.specs.Realises.{Realises}
 use Rattle.wire_starts.specs.declared.Starts.{Starts}
 use Rattle.wire_starts.specs.declared.Starts.TheVariants.{Given, Tries}
 use Rattle.routed_parts.specs.Settled.{IsSettled}
-use Rattle.routed_parts.specs.Tries.{IsTaken}
+use Rattle.routed_parts.specs.Tries.{AreTaken}
 
 abbrev pub IsLeft : Bool → Part → ℕ → List Gate → Type 0
 IsLeft false p k ws = (p.target ≡ ops ws) × (p.power ≡ k % 8)
@@ -50,19 +50,19 @@ AreOfRuns clean n _ _ _ = ⊥
 
 abbrev pub HasNoMoreSwaps : Coupling → Starts → List (List Gate) → List Part → Type 0
 HasNoMoreSwaps d (Given q) lists parts = Unit {0}
-HasNoMoreSwaps d (Tries k) lists parts = (q : List ℕ) × (rs : List Routed) × IsTaken d (Tries 1) lists q rs
+HasNoMoreSwaps d (Tries k) lists parts = (q : List ℕ) × (rs : List Routed) × AreTaken d (Tries 1) lists q rs
     × (d.costs ≡ None → sum_by (λ p. p.swaps) parts ≤ sum_by (λ r. r.swaps) rs)
 
 pub record AreMachineRuns (d : Coupling) (starts : Starts) (clean : Bool) (n : ℕ) (first : List ℕ) (parts : List Part)
     : Type 0 where
   pub lists : List (List Gate)
   pub routed : List Routed
-  pub taken : IsTaken d starts lists first routed
+  pub taken : AreTaken d starts lists first routed
   pub left : AreOfRuns clean n parts lists routed
   pub no_more_swaps : HasNoMoreSwaps d starts lists parts
 
 pub record HasFewSwaps (d : Coupling) (S us : List Op) (swaps : ℕ) : Type 0 where
   pub diameter : ℕ
   pub is_diameter : IsDiameter d.size d.edges (cost d) diameter
-  pub few : swaps ≤ cx_count S * bound d diameter
-  pub cx_gates : cx_count us ≤ cx_count S * (1 + 3 * bound d diameter)
+  pub few : swaps ≤ cx_count S * swap_bound d diameter
+  pub cx_gates : cx_count us ≤ cx_count S * (1 + 3 * swap_bound d diameter)

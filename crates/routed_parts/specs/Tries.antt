@@ -7,7 +7,7 @@
 --   expense d rs              what tries are compared by, expense_by: what the CNOTs cost if the device lists costs,
 --                             else the swaps
 --   IsBestTry d tries lists first rs   of so many tries the one of the least expense, of equals the first
---   IsTaken d starts lists first rs    the runs that are taken: from the given placement on, or those of the best try
+--   AreTaken d starts lists first rs   the runs that are taken: from the given placement on, or those of the best try
 use Rattle.std.specs.Prelude.{◌≡◌, ℕ, ◌%◌, ◌<◌, ◌≤◌, ◌==◌, Bool, true, false, List, [], ◌∷◌, Option, None, Some, sum_by}
 use Rattle.circuit_list.specs.declared.Gate.{Gate}
 use Rattle.circuit_list.specs.Gates.{ops}
@@ -56,6 +56,6 @@ pub record IsBestTry (d : Coupling) (tries : ℕ) (lists : List (List Gate)) (fi
   pub first_of_equals : (k : ℕ) (q : List ℕ) (xs : List Routed) → k < number → IsTry d lists k q xs
       → expense d rs < expense d xs
 
-abbrev pub IsTaken : Coupling → Starts → List (List Gate) → List ℕ → List Routed → Type 0
-IsTaken d (Given q) lists first rs = (first ≡ q) × AreRouted d false first lists rs
-IsTaken d (Tries k) lists first rs = IsBestTry d k lists first rs
+abbrev pub AreTaken : Coupling → Starts → List (List Gate) → List ℕ → List Routed → Type 0
+AreTaken d (Given q) lists first rs = (first ≡ q) × AreRouted d false first lists rs
+AreTaken d (Tries k) lists first rs = IsBestTry d k lists first rs

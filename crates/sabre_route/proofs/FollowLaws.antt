@@ -14,7 +14,7 @@ use Rattle.circuit_list.specs.declared.Gate.{Gate}
 use Rattle.circuit_list.specs.declared.Gate.TheVariants.{H, X, P, Cx}
 use Rattle.circuit_list.specs.Gates.{first_wire, is_cx, IsFine}
 use Rattle.sabre_route.specs.Dependences.{behind, release_at, IsBefore, IsReleasedAt}
-use Rattle.sabre_route.specs.Front.{is_left, rest, rest_by, AreHeads, IsFirst}
+use Rattle.sabre_route.specs.Front.{is_left, rest, rest_by, AreHeads, IsFirstOnWires}
 use Rattle.sabre_route.specs.Kept.{is_at_head, places_by}
 use Rattle.sabre_route.specs.Looking.{HasFollowed, IsFollowing, IsLookout, IsLooking, IsMetBefore, Unbound, Waits}
 use Rattle.sabre_route.specs.Search.{front, gate_pairs, most_extended, pairs_at}
@@ -121,7 +121,7 @@ heads-take n gs heads e h = record {
   agree = λ j g at. h.agree j g (get-take gs e j g at);
 }
 
-first-take : (gs : List Gate) (heads : List ℕ) (e b : ℕ) → IsFirst (take e gs) heads b → (b < e) × IsFirst gs heads b
+first-take : (gs : List Gate) (heads : List ℕ) (e b : ℕ) → IsFirstOnWires (take e gs) heads b → (b < e) × IsFirstOnWires gs heads b
 first-take gs heads e b h = (
   omega (arith, h.within, length-take e gs),
   record {
@@ -222,7 +222,7 @@ following-begun gs heads later m e limit layer places look cut is begin limited 
       gone = λ k lt. absurd (omega arith);
       gone_back = λ b g. absurd (false_true (sym g.3 ∙ g.2));
       pending = λ k le lt.
-          subst (λ (p : ℕ × ℕ). IsFirst gs heads p.1) (sym (timed-entry ready k (omega (arith, lt, size, length-timed ready))))
+          subst (λ (p : ℕ × ℕ). IsFirstOnWires gs heads p.1) (sym (timed-entry ready k (omega (arith, lt, size, length-timed ready))))
           (first-take gs heads e (slice_index ready k) (ready-first (take e gs) heads ready k refl (omega (arith, lt, size)))).1;
       still = λ b g at left. left;
     };
@@ -248,7 +248,7 @@ following-begun gs heads later m e limit layer places look cut is begin limited 
     headed : AreHeaded (take e gs) heads ready
     headed = by-index _ ready (λ k lt. one (slice_index ready k) (ready-first (take e gs) heads ready k refl lt))
       where
-        one : (j : ℕ) → IsFirst (take e gs) heads j → (c : ℕ) × (t : ℕ) × (get_or (take e gs) j (H 0) ≡ Cx c t) × (slice_index heads c ≡ j)
+        one : (j : ℕ) → IsFirstOnWires (take e gs) heads j → (c : ℕ) × (t : ℕ) × (get_or (take e gs) j (H 0) ≡ Cx c t) × (slice_index heads c ≡ j)
         one j h =
             let g = gate-at (take e gs) j h.within in
             let cx = cx-gate g.0 (holds_at (λ x. is_cx x ≡ true) gs j g.0 look.cx (get-take gs e j g.0 g.1)) in

@@ -14,7 +14,7 @@ use Rattle.circuit_list.specs.declared.Gate.{Gate}
 use Rattle.circuit_list.specs.declared.Gate.TheVariants.{H, X, P, Cx}
 use Rattle.circuit_list.specs.Gates.{first_wire, is_on, second_wire, IsFine}
 use Rattle.sabre_route.specs.Dependences.{release_at, IsBefore, IsReleasedAt}
-use Rattle.sabre_route.specs.Front.{is_left, AreHeads, HasPassed, IsFirst, IsNext}
+use Rattle.sabre_route.specs.Front.{is_left, AreHeads, HasPassed, IsFirstOnWires, IsNext}
 use Rattle.sabre_route.specs.Looking.{IsGone, IsLooking, Unbound, Waits}
 use Rattle.sabre_route.specs.Search.{shares}
 use Rattle.sabre_route.proofs.DependenceLaws.{met-early}
@@ -103,11 +103,11 @@ wire-gone n gs heads j g are at w on lt = go (is_left heads j g) refl
     go true e = absurd (omega (arith, lt, left-wire n gs heads j g are at w on e))
     go false e = e
 
-pub first-wire : (gs : List Gate) (heads : List ℕ) (j : ℕ) (g : Gate) → IsFirst gs heads j → slice_get gs j ≡ Some g → (w : ℕ) → IsWire g w → slice_index heads w ≡ j
+pub first-wire : (gs : List Gate) (heads : List ℕ) (j : ℕ) (g : Gate) → IsFirstOnWires gs heads j → slice_get gs j ≡ Some g → (w : ℕ) → IsWire g w → slice_index heads w ≡ j
 first-wire gs heads j g h at w (inl e) = ap (slice_index heads) (sym e) ∙ h.first g at
 first-wire gs heads j g h at w (inr e) = ap (slice_index heads) (sym e) ∙ h.second g at
 
-pub reached-first : (gs : List Gate) (heads : List ℕ) (j : ℕ) (g : Gate) → slice_get gs j ≡ Some g → ((w : ℕ) → IsWire g w → slice_index heads w ≡ j) → IsFirst gs heads j
+pub reached-first : (gs : List Gate) (heads : List ℕ) (j : ℕ) (g : Gate) → slice_get gs j ≡ Some g → ((w : ℕ) → IsWire g w → slice_index heads w ≡ j) → IsFirstOnWires gs heads j
 reached-first gs heads j g at h = record {
   within = slice_get_within gs j g at;
   first = λ x d. h (first_wire x) (inl (ap first_wire (slice_get-once gs j g x at d)));
@@ -164,7 +164,7 @@ pub passed-next : (gs : List Gate) (j : ℕ) (g : Gate) (old new : List ℕ) →
 passed-next gs j g old new h w (inl e) = subst (λ v. IsNext gs v (suc j) (slice_index new v)) e h.on_first
 passed-next gs j g old new h w (inr e) = subst (λ v. IsNext gs v (suc j) (slice_index new v)) e h.on_second
 
-pub first-kept : (gs : List Gate) (j : ℕ) (g : Gate) (old new : List ℕ) (b : ℕ) → slice_get gs j ≡ Some g → IsFirst gs old j → HasPassed gs j g old new → b ≢ j → IsFirst gs old b → IsFirst gs new b
+pub first-kept : (gs : List Gate) (j : ℕ) (g : Gate) (old new : List ℕ) (b : ℕ) → slice_get gs j ≡ Some g → IsFirstOnWires gs old j → HasPassed gs j g old new → b ≢ j → IsFirstOnWires gs old b → IsFirstOnWires gs new b
 first-kept gs j g old new b at here h ne first =
     let x = gate-at gs b first.within in
     reached-first gs new b x.0 x.1 (λ w on. go w (first-wire gs old b x.0 first x.1 w on) (cases_eq w (first_wire g)) (cases_eq w (second_wire g)))
@@ -198,7 +198,7 @@ passed-looking n gs heads e first next count places reach after time place g en 
     x : ℕ
     x = (release_at h.met next).1
 
-    here : IsFirst gs reach x
+    here : IsFirstOnWires gs reach x
     here = h.pending next (omega arith) lt
 
     apart : (k : ℕ) → suc next ≤ k → k < count → (release_at h.met k).1 ≢ x
@@ -231,7 +231,7 @@ passed-looking n gs heads e first next count places reach after time place g en 
 
 -- ---- what the passing of a gate releases
 pub record IsChild (gs : List Gate) (reach : List ℕ) (later : ℕ × ℕ) (b : ℕ) : Type 0 where
-  pub first : IsFirst gs reach b
+  pub first : IsFirstOnWires gs reach b
   pub next : (b ≡ later.0) ⊎ (b ≡ later.1)
 
 -- after the gate at place x was passed, with number `next`
@@ -254,7 +254,7 @@ pub record IsAfter (gs : List Gate) (heads : List ℕ) (e first next count : ℕ
 
 -- all that a child waits for is gone
 waiting-gone : (gs : List Gate) (heads : List ℕ) (e first next count : ℕ) (places reach : List ℕ) (met : List (ℕ × ℕ)) (x : ℕ) (later : ℕ × ℕ) → IsAfter gs heads e first next count places reach met x later
-    → (b a : ℕ) → IsFirst gs reach b → Waits gs heads b a → (i : ℕ) × (i ≤ next) × (i < length met) × ((release_at met i).1 ≡ a)
+    → (b a : ℕ) → IsFirstOnWires gs reach b → Waits gs heads b a → (i : ℕ) × (i ≤ next) × (i < length met) × ((release_at met i).1 ≡ a)
 waiting-gone gs heads e first next count places reach met x later h b a at w =
     let s = shares-wire w.waits.one w.waits.other w.waits.shared in
     let ahead : a < slice_index reach s.0 = omega (arith, w.waits.earlier, first-wire gs reach b w.waits.other at w.waits.here s.0 s.2) in
@@ -351,7 +351,7 @@ released-child gs heads e first next count places reach met x later h b r = reco
         false_true : false ≡ true → ⊥
         false_true f = cc
 
-    at : IsFirst gs reach b
+    at : IsFirstOnWires gs reach b
     at = reached-first gs reach b y w.waits.here (λ v on. one v on (cases_lt (slice_index reach v) b))
       where
         one : (v : ℕ) → IsWire y v → (slice_index reach v < b) ⊎ (b ≤ slice_index reach v) → slice_index reach v ≡ b

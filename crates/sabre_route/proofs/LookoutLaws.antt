@@ -13,7 +13,7 @@ use Rattle.std.proofs.lemmas.Option.{get_or_from_slice_get}
 use Rattle.circuit_list.specs.declared.Gate.{Gate}
 use Rattle.circuit_list.specs.Gates.{first_wire, is_cx, second_wire, IsFine}
 use Rattle.sabre_route.specs.Ahead.{cx_only, Outlook}
-use Rattle.sabre_route.specs.Front.{is_left, rest, AreHeads, HasPassed, IsFirst, IsNext}
+use Rattle.sabre_route.specs.Front.{is_left, rest, AreHeads, HasPassed, IsFirstOnWires, IsNext}
 use Rattle.sabre_route.specs.Kept.{is_at_head, AreLinks}
 use Rattle.sabre_route.specs.Left.{IsFirstGate}
 use Rattle.sabre_route.specs.Looking.{CanPass, IsChained, IsLookout, IsPast}
@@ -38,7 +38,7 @@ passed-set gs later old place d g v w at ev ew fine links =
 
 pub record IsStanding (gs : List Gate) (heads : List ℕ) (g : Gate) (place j : ℕ) : Type 0 where
   pub there : slice_get gs place ≡ Some g
-  pub first : IsFirst gs heads place
+  pub first : IsFirstOnWires gs heads place
   pub head : slice_index heads (first_wire g) ≡ place
   pub below : first_wire g < length heads
   pub other_below : second_wire g < length heads

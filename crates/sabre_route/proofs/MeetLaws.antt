@@ -9,7 +9,7 @@ use Rattle.std.proofs.lemmas.List.{get_or-map, get_or-take, get_or_append_left, 
 use Rattle.circuit_list.specs.declared.Gate.{Gate}
 use Rattle.circuit_list.specs.Gates.{first_wire, second_wire, IsFine}
 use Rattle.sabre_route.specs.Dependences.{release_at, IsBefore, IsReleasedAt}
-use Rattle.sabre_route.specs.Front.{AreHeads, IsFirst, IsNext}
+use Rattle.sabre_route.specs.Front.{AreHeads, IsFirstOnWires, IsNext}
 use Rattle.sabre_route.specs.Looking.{HasMet, IsGone, IsLooking, IsOnTheWay, IsMetBefore, Unbound, Waits}
 use Rattle.sabre_route.specs.Search.{most_extended}
 use Rattle.sabre_route.proofs.LookLaws.{child-released, released-child, IsAfter, IsChild, IsWire}
@@ -91,7 +91,7 @@ looking-past gs heads e first next count places reach time place t b h w = recor
 
 -- one more is met
 looking-met : (gs : List Gate) (heads : List ℕ) (e first next count : ℕ) (places reach : List ℕ) (b : ℕ) → (h : IsLooking gs heads e first (suc next) count places reach (suc next) b)
-    → IsReleasedAt (Waits gs heads) (Unbound gs heads e) h.met (suc next) b → IsFirst gs reach b → count < first + most_extended → count < length places
+    → IsReleasedAt (Waits gs heads) (Unbound gs heads e) h.met (suc next) b → IsFirstOnWires gs reach b → count < first + most_extended → count < length places
     → IsLooking gs heads e first (suc next) (count + 1) (set places count b) reach (suc next) (suc b)
 looking-met gs heads e first next count places reach b h r at lt room = record {
   met = more;
@@ -123,9 +123,9 @@ looking-met gs heads e first next count places reach b h r at lt room = record {
     behind k le l (inl below) = omega (arith, ap (λ (p : ℕ × ℕ). p.0) (old k (omega (arith, below, h.long))), h.behind_first k le below)
     behind k le l (inr above) = omega (arith, ap (λ (p : ℕ × ℕ). p.0) (new k (omega (arith, above, l))))
 
-    waiting : (k : ℕ) → suc next ≤ k → k < count + 1 → (k < count) ⊎ (count ≤ k) → IsFirst gs reach (release_at more k).1
-    waiting k le l (inl below) = subst (λ (p : ℕ × ℕ). IsFirst gs reach p.1) (sym (old k (omega (arith, below, h.long)))) (h.pending k le below)
-    waiting k le l (inr above) = subst (λ (p : ℕ × ℕ). IsFirst gs reach p.1) (sym (new k (omega (arith, above, l)))) at
+    waiting : (k : ℕ) → suc next ≤ k → k < count + 1 → (k < count) ⊎ (count ≤ k) → IsFirstOnWires gs reach (release_at more k).1
+    waiting k le l (inl below) = subst (λ (p : ℕ × ℕ). IsFirstOnWires gs reach p.1) (sym (old k (omega (arith, below, h.long)))) (h.pending k le below)
+    waiting k le l (inr above) = subst (λ (p : ℕ × ℕ). IsFirstOnWires gs reach p.1) (sym (new k (omega (arith, above, l)))) at
 
 abbrev pub IsMeeting : List Gate → List ℕ → ℕ → ℕ → ℕ → ℕ → List ℕ → List ℕ → ℕ → Type 0
 IsMeeting gs heads e first next count places reach b = IsOnTheWay gs heads e first (suc next) count places reach (suc next) (suc b)
@@ -164,7 +164,7 @@ meeting-met gs heads e first next count places reach x later p b limit result af
         looking-past gs heads e first (suc next) count places reach (suc next) p (suc next) c h
         (walked-children gs heads e first next count places reach h.met x later p (suc next) c k h.walked (later_than c pc) (λ s a q. close s a c q) (λ a pa q child. free a pa (below a c q) child))
 
-    push : (lt : count < first + most_extended) → IsFirst gs reach b → IsMeeting gs heads e first next (count + 1) (set places count b) reach b
+    push : (lt : count < first + most_extended) → IsFirstOnWires gs reach b → IsMeeting gs heads e first next (count + 1) (set places count b) reach b
     push lt is =
         let h = past lt b le (λ a pa q child. none a pa q child.next) in
         let k = after-looking gs heads e first next count places reach (suc next) b x later fine are h at f in
@@ -175,7 +175,7 @@ meeting-met gs heads e first next count places reach x later p b limit result af
           goes_on = λ l. (refl, refl);
         }
 
-    skip : (lt : count < first + most_extended) → (IsFirst gs reach b → ⊥) → IsMeeting gs heads e first next count places reach b
+    skip : (lt : count < first + most_extended) → (IsFirstOnWires gs reach b → ⊥) → IsMeeting gs heads e first next count places reach b
     skip lt never = record {
       time = suc next;
       place = suc b;
@@ -184,14 +184,14 @@ meeting-met gs heads e first next count places reach x later p b limit result af
     }
       where
         free : (a : ℕ) → p ≤ a → a < suc b → IsChild gs reach later a → (a ≡ b) ⊎ (a ≡ b → ⊥) → ⊥
-        free a pa q child (inl same) = never (subst (IsFirst gs reach) same child.first)
+        free a pa q child (inl same) = never (subst (IsFirstOnWires gs reach) same child.first)
         free a pa q child (inr ne) = none a pa (omega arith) child.next
 
     go : HasMet gs reach b limit count places result after → IsMeeting gs heads e first next result after reach b
     go (inl m) = same_goal (count + 1) (set places count b) m.2 m.3 (push (omega (arith, m.0, el)) m.1)
     go (inr m) = same_goal count places m.1 m.2 (rest m.0 (cases_lt count (first + most_extended)))
       where
-        rest : (limit ≤ count) ⊎ (IsFirst gs reach b → ⊥) → (count < first + most_extended) ⊎ (first + most_extended ≤ count) → IsMeeting gs heads e first next count places reach b
+        rest : (limit ≤ count) ⊎ (IsFirstOnWires gs reach b → ⊥) → (count < first + most_extended) ⊎ (first + most_extended ≤ count) → IsMeeting gs heads e first next count places reach b
         rest (inl big) c = full big
         rest (inr never) (inl lt) = skip lt never
         rest (inr never) (inr big) = full (omega (arith, big, el))

@@ -22,7 +22,7 @@ use Rattle.unitary_model.specs.Placement.{exchanged}
 use Rattle.unitary_model.proofs.PlacementLaws.{exchanged-below}
 use Rattle.sabre_route.specs.declared.best.Choice.{Choice}
 use Rattle.sabre_route.specs.Search.{most_extended, IsNotAbove}
-use Rattle.sabre_route.specs.Scores.{ends_on, score_on, stands, total, AreWithin, HasTried, IsChoice, IsMetric, most_distance}
+use Rattle.sabre_route.specs.Scores.{ends_on, score_on, stands, total_distance, AreWithin, HasTried, IsChoice, IsMetric, most_distance}
 use Rattle.sabre_route.proofs.DistanceLaws.{near-symmetric}
 use Rattle.sabre_route.proofs.ScoreLaws.{exchanged-from, exchanged-off, exchanged-to, not_above-trans, product-le, total-comm, total-short}
 
@@ -96,13 +96,13 @@ costs-ends c (p ∷ ps) a =
     )
 
 total-costs : (d : Coupling) (a b : ℕ) (ps : List (ℕ × ℕ)) → IsMetric d → a < d.size → b < d.size → AreWithin d.size ps → is_near d.edges a b ≡ true
-    → total d (λ q. q) ps ≤ total d (exchanged a b) ps + (costs-on (cost d a b) ps a + costs-on (cost d a b) ps b)
+    → total_distance d (λ q. q) ps ≤ total_distance d (exchanged a b) ps + (costs-on (cost d a b) ps a + costs-on (cost d a b) ps b)
 total-costs d a b [] m la lb w near = omega arith
 total-costs d a b (p ∷ ps) m la lb w near =
     omega (arith, pair-nearer d a b p m la lb (w 0 p (omega arith)) near, total-costs d a b ps m la lb (λ k q lt. w (suc k) q (omega (arith, lt))) near)
 
 pub total-nearer : (d : Coupling) (a b : ℕ) (ps : List (ℕ × ℕ)) → IsMetric d → a < d.size → b < d.size → AreWithin d.size ps → is_near d.edges a b ≡ true
-    → total d (λ q. q) ps ≤ total d (exchanged a b) ps + cost d a b * (ends_on ps a + ends_on ps b)
+    → total_distance d (λ q. q) ps ≤ total_distance d (exchanged a b) ps + cost d a b * (ends_on ps a + ends_on ps b)
 total-nearer d a b ps m la lb w near =
     omega (
       arith,
@@ -169,7 +169,7 @@ score-ordered d fs es a b = go (cases_lt a b)
         (λ z. score_on d fs es (low z) (high z)) ∙ score-turned d fs es a b
 
 pub front-short : (d : Coupling) (fs : List (ℕ × ℕ)) (a b : ℕ) → IsMetric d → a < d.size → b < d.size → AreWithin d.size fs → length fs ≤ most_qubits
-    → total d (exchanged a b) fs ≤ most_qubits * most_distance
+    → total_distance d (exchanged a b) fs ≤ most_qubits * most_distance
 front-short d fs a b m la lb w few = omega (arith, total-short d a b fs m la lb w, product-le (length fs) most_distance most_qubits most_distance few (omega arith))
 
 pub extended-short : (d : Coupling) (es : List (ℕ × ℕ)) (n : ℕ) → IsMetric d → length es ≤ most_extended → n ≤ length es * most_distance → n ≤ most_extended * most_distance
@@ -189,17 +189,17 @@ pub score-short : (d : Coupling) (fs es : List (ℕ × ℕ)) (a b : ℕ) → IsM
     → score_on d fs es a b ≤ 2 * most_extended * (most_qubits * most_distance) + most_qubits * (most_extended * most_distance)
 unfolding score_on
 score-short d fs es a b m la lb wf we lf le =
-    weighed-short (length es) (length fs) (total d (exchanged a b) fs) (total d (exchanged a b) es) le lf (front-short d fs a b m la lb wf lf)
-    (extended-short d es (total d (exchanged a b) es) m le (total-short d a b es m la lb we))
+    weighed-short (length es) (length fs) (total_distance d (exchanged a b) fs) (total_distance d (exchanged a b) es) le lf (front-short d fs a b m la lb wf lf)
+    (extended-short d es (total_distance d (exchanged a b) es) m le (total-short d a b es m la lb we))
 
 over : (s f w x y n : ℕ) → s + f * n < w + f * x → x ≤ y + n → s < w + f * y
 over s f w x y n above le = omega (arith, mul-le-mul_left f le)
 
 pub score-above : (d : Coupling) (fs es : List (ℕ × ℕ)) (a b s w : ℕ) → IsMetric d → a < d.size → b < d.size → AreWithin d.size es → is_near d.edges a b ≡ true
-    → w ≡ 2 * max 1 (length es) * total d (exchanged a b) fs + length fs * total d (λ q. q) es → s + length fs * (cost d a b * (ends_on es a + ends_on es b)) < w → s < score_on d fs es a b
+    → w ≡ 2 * max 1 (length es) * total_distance d (exchanged a b) fs + length fs * total_distance d (λ q. q) es → s + length fs * (cost d a b * (ends_on es a + ends_on es b)) < w → s < score_on d fs es a b
 unfolding score_on
 score-above d fs es a b s w m la lb we near e above =
-    over s (length fs) (2 * max 1 (length es) * total d (exchanged a b) fs) (total d (λ q. q) es) (total d (exchanged a b) es) (cost d a b * (ends_on es a + ends_on es b)) (omega (arith, e)) (total-nearer d a b es m la lb we near)
+    over s (length fs) (2 * max 1 (length es) * total_distance d (exchanged a b) fs) (total_distance d (λ q. q) es) (total_distance d (exchanged a b) es) (cost d a b * (ends_on es a + ends_on es b)) (omega (arith, e)) (total-nearer d a b es m la lb we near)
 
 HasTried-better : (d : Coupling) (fs es : List (ℕ × ℕ)) (old new : Choice) (a b : ℕ) → IsNotAbove new.score new.a new.b old.score old.a old.b → HasTried d fs es old a b → HasTried d fs es new a b
 HasTried-better d fs es old new a b better h =

@@ -9,7 +9,7 @@ use Rattle.std.proofs.lemmas.Option.{get_or_from_slice_get, slice_get_within}
 use Rattle.circuit_list.specs.declared.Gate.{Gate}
 use Rattle.circuit_list.specs.declared.Gate.TheVariants.{H}
 use Rattle.sabre_route.specs.Dependences.{behind, release_at, IsAlong, IsReleasedAt, IsUnbound, WaitsFor}
-use Rattle.sabre_route.specs.Front.{is_left, rest, rest_by, AreHeads, IsFirst}
+use Rattle.sabre_route.specs.Front.{is_left, rest, rest_by, AreHeads, IsFirstOnWires}
 use Rattle.sabre_route.specs.Looking.{HasFollowed, IsLookout, Unbound, Waits}
 use Rattle.sabre_route.specs.Search.{gate_pairs, most_extended, pairs_at}
 use Rattle.sabre_route.proofs.FollowLaws.{take-get, IsCut}
@@ -117,7 +117,7 @@ among-left gs heads later m e look few cut = record {
         before b eb (inl lt) = lt
         before b eb (inr le) = absurd (omega (arith, rank-le (is_left heads) 0 gs e b le, cut.ranked, eb, u.0))
 
-        first : (b : ℕ) (g : Gate) → slice_get gs b ≡ Some g → is_left heads b g ≡ true → index_of heads gs b ≡ y → IsFirst gs heads b
+        first : (b : ℕ) (g : Gate) → slice_get gs b ≡ Some g → is_left heads b g ≡ true → index_of heads gs b ≡ y → IsFirstOnWires gs heads b
         first b g at left eb = reached-first gs heads b g at (λ w on. one w on (cases_lt (slice_index heads w) b))
           where
             one : (w : ℕ) → IsWire g w → (slice_index heads w < b) ⊎ (b ≤ slice_index heads w) → slice_index heads w ≡ b

@@ -20,7 +20,7 @@ use Rattle.std.specs.Int.Bits.{bit_or}
 use Rattle.coupling_map.specs.Coupling.{Coupling, dist}
 use Rattle.unitary_model.specs.Placement.{exchanged}
 use Rattle.unitary_model.proofs.PlacementLaws.{exchanged-below}
-use Rattle.sabre_route.specs.Scores.{has_end, total, AreWithin, IsMetric, most_distance}
+use Rattle.sabre_route.specs.Scores.{has_end, total_distance, AreWithin, IsMetric, most_distance}
 use Rattle.sabre_route.proofs.ScoreLaws.{equal, exchanged-off, total-within, unequal, unequal-not}
 
 -- ---- which pairs have an end on a qubit
@@ -162,14 +162,14 @@ told-more m ps k a i lt small lx ly h =
 -- ---- the pairs moved one by one
 abbrev pub midway : Coupling → ℕ → ℕ → List (ℕ × ℕ) → ℕ → ℕ
 midway d a b [] k = 0
-midway d a b (p ∷ ps) zero = total d (λ q. q) (p ∷ ps)
+midway d a b (p ∷ ps) zero = total_distance d (λ q. q) (p ∷ ps)
 midway d a b (p ∷ ps) (suc k) = dist d (exchanged a b p.0) (exchanged a b p.1) + midway d a b ps k
 
-pub midway-none : (d : Coupling) (a b : ℕ) (ps : List (ℕ × ℕ)) → midway d a b ps 0 ≡ total d (λ q. q) ps
+pub midway-none : (d : Coupling) (a b : ℕ) (ps : List (ℕ × ℕ)) → midway d a b ps 0 ≡ total_distance d (λ q. q) ps
 midway-none d a b [] = refl
 midway-none d a b (p ∷ ps) = refl
 
-midway-all : (d : Coupling) (a b : ℕ) (ps : List (ℕ × ℕ)) (k : ℕ) → length ps ≤ k → midway d a b ps k ≡ total d (exchanged a b) ps
+midway-all : (d : Coupling) (a b : ℕ) (ps : List (ℕ × ℕ)) (k : ℕ) → length ps ≤ k → midway d a b ps k ≡ total_distance d (exchanged a b) ps
 midway-all d a b [] k le = refl
 midway-all d a b (p ∷ ps) zero le = absurd (omega (arith, le))
 midway-all d a b (p ∷ ps) (suc k) le = ap (λ n. dist d (exchanged a b p.0) (exchanged a b p.1) + n) (midway-all d a b ps k (omega (arith, le)))
@@ -214,7 +214,7 @@ midway-skip d a b ps k (suc n) h =
     let next : k + suc n ≡ suc (k + n) = omega arith in
     ap (midway d a b ps) next ∙ midway-kept d a b ps (k + n) (h n (omega arith)) ∙ midway-skip d a b ps k n (λ i lt. h i (omega (arith, lt)))
 
-pub midway-rest : (d : Coupling) (a b : ℕ) (ps : List (ℕ × ℕ)) (k : ℕ) → ((i : ℕ) → (has_end ps (k + i) a || has_end ps (k + i) b) ≡ false) → midway d a b ps k ≡ total d (exchanged a b) ps
+pub midway-rest : (d : Coupling) (a b : ℕ) (ps : List (ℕ × ℕ)) (k : ℕ) → ((i : ℕ) → (has_end ps (k + i) a || has_end ps (k + i) b) ≡ false) → midway d a b ps k ≡ total_distance d (exchanged a b) ps
 midway-rest d a b ps k h = sym (midway-skip d a b ps k (length ps) (λ i lt. h i)) ∙ midway-all d a b ps (k + length ps) (omega arith)
 
 pub midway-short : (d : Coupling) (a b : ℕ) (ps : List (ℕ × ℕ)) (k : ℕ) → IsMetric d → a < d.size → b < d.size → AreWithin d.size ps → midway d a b ps k ≤ length ps * most_distance

@@ -18,7 +18,7 @@ use Rattle.circuit_list.specs.declared.Gate.{Gate}
 use Rattle.circuit_list.specs.Gates.{IsFine, is_cx}
 use Rattle.sabre_route.specs.Ahead.{Ahead, IsExtended, Outlook}
 use Rattle.sabre_route.specs.Dependences.{behind, release_at, AreMet, IsAlong, IsBefore, IsReleasedAt, WaitsFor}
-use Rattle.sabre_route.specs.Front.{is_left, rest, AreHeads, IsFirst}
+use Rattle.sabre_route.specs.Front.{is_left, rest, AreHeads, IsFirstOnWires}
 use Rattle.sabre_route.specs.Kept.{AreLinks}
 use Rattle.sabre_route.specs.Left.{IsFirstGate}
 use Rattle.sabre_route.specs.Scores.{placed, AreWithin}
@@ -51,7 +51,7 @@ pub record Waits (gs : List Gate) (heads : List ℕ) (b a : ℕ) : Type 0 where
   pub left : is_left heads a waits.one ≡ true
 
 abbrev pub Unbound : List Gate → List ℕ → ℕ → ℕ → Type 0
-Unbound gs heads e b = (b < e) × IsFirst gs heads b
+Unbound gs heads e b = (b < e) × IsFirstOnWires gs heads b
 
 pub record IsMetBefore (waits : ℕ → ℕ → Type 0) (unbound : ℕ → Type 0) (met : List (ℕ × ℕ)) (time place : ℕ) : Type 0 where
   pub ordered : (i j : ℕ) → i < j → j < length met → IsBefore (release_at met i) (release_at met j)
@@ -75,7 +75,7 @@ pub record IsLooking (gs : List Gate) (heads : List ℕ) (e first next count : �
   pub within : next ≤ count
   pub gone : (k : ℕ) → k < next → IsGone gs heads reach (release_at met k).1
   pub gone_back : (b : ℕ) → IsGone gs heads reach b → (k : ℕ) × (k < next) × ((release_at met k).1 ≡ b)
-  pub pending : (k : ℕ) → next ≤ k → k < count → IsFirst gs reach (release_at met k).1
+  pub pending : (k : ℕ) → next ≤ k → k < count → IsFirstOnWires gs reach (release_at met k).1
   pub still : (b : ℕ) (g : Gate) → slice_get gs b ≡ Some g → is_left reach b g ≡ true → is_left heads b g ≡ true
 
 pub record IsOnTheWay (gs : List Gate) (heads : List ℕ) (e first next count : ℕ) (places reach : List ℕ) (then from : ℕ) : Type 0 where
@@ -85,8 +85,8 @@ pub record IsOnTheWay (gs : List Gate) (heads : List ℕ) (e first next count : 
   pub goes_on : count < first + most_extended → (time ≡ then) × (place ≡ from)
 
 abbrev pub HasMet : List Gate → List ℕ → ℕ → ℕ → ℕ → List ℕ → ℕ → List ℕ → Type 0
-HasMet gs reach b limit count old result new = ((count < limit) × IsFirst gs reach b × (result ≡ count + 1) × (new ≡ set old count b))
-    ⊎ (((limit ≤ count) ⊎ (IsFirst gs reach b → ⊥)) × (result ≡ count) × (new ≡ old))
+HasMet gs reach b limit count old result new = ((count < limit) × IsFirstOnWires gs reach b × (result ≡ count + 1) × (new ≡ set old count b))
+    ⊎ (((limit ≤ count) ⊎ (IsFirstOnWires gs reach b → ⊥)) × (result ≡ count) × (new ≡ old))
 
 pub record IsFollowing (gs : List Gate) (heads : List ℕ) (e first next count limit : ℕ) (places reach : List ℕ) : Type 0 where
   pub fine : All (IsFine (length heads)) gs

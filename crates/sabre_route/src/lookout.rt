@@ -9,7 +9,7 @@ ghost use Rattle.circuit_list.specs.Gates.{IsFine, is_cx};
 ghost use Rattle.unitary_model.specs.Limits.{most_qubits};
 ghost use Rattle.unitary_model.specs.Placement.{position_of};
 ghost use Rattle.sabre_route.specs.Ahead.{cx_only};
-ghost use Rattle.sabre_route.specs.Front.{HasPassed, IsFirst};
+ghost use Rattle.sabre_route.specs.Front.{HasPassed, IsFirstOnWires};
 ghost use Rattle.sabre_route.specs.Kept.{AreLinks};
 ghost use Rattle.sabre_route.specs.Looking.{CanPass, HasFollowed, HasMet, IsFollowing, IsLayer, IsPassedBy, IsPast, IsWrittenSet};
 ghost use Rattle.sabre_route.specs.Search.{most_extended};
@@ -175,7 +175,7 @@ fn pass(cnots: &[Gate], later: &[(usize, usize)], place: usize, reach: &mut [usi
 /// Whether a gate stands at a place, first on its wires.
 fn is_reached(cnots: &[Gate], reach: &[usize], place: usize) -> bool
     requires fine { All (IsFine (length reach.now)) cnots.now }
-    ensures value { IsTrue result ↔ IsFirst cnots.now reach.now place }
+    ensures value { IsTrue result ↔ IsFirstOnWires cnots.now reach.now place }
 {
     if place >= cnots.len() {
         return false;

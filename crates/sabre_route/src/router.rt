@@ -6,13 +6,13 @@ ghost use Rattle.circuit_list.specs.Gates.{IsFine, ops};
 ghost use Rattle.coupling_map.specs.Coupling.{cost};
 ghost use Rattle.coupling_map.specs.Edges.{FollowsEdges};
 ghost use Rattle.coupling_map.specs.Walks.{IsDiameter};
-ghost use Rattle.sabre_route.specs.Machine.{IsChosen, IsEmittable, IsWalk};
-ghost use Rattle.sabre_route.specs.Measures.{bound};
+ghost use Rattle.sabre_route.specs.Machine.{IsChosen, IsEmittable, IsWalkSwap};
+ghost use Rattle.sabre_route.specs.Measures.{swap_bound};
 ghost use Rattle.sabre_route.specs.Routing.{IsLayout, IsRouted};
 ghost use Rattle.sabre_route.specs.Ahead.{Ahead, IsLookoutOver};
 ghost use Rattle.sabre_route.specs.Teller.{HasToldStep};
 ghost use Rattle.sabre_route.specs.Telling.{IsRoutedBy};
-ghost use Rattle.sabre_route.specs.Underway.{HasEnded, IsFitting, IsMove, IsRealising};
+ghost use Rattle.sabre_route.specs.Underway.{HasEnded, IsFittingRun, IsMove, IsRealising};
 ghost use Rattle.unitary_model.specs.Operations.{cx_count, t_count};
 ghost use Rattle.unitary_model.specs.Placement.{IsPlacement};
 ghost use Rattle.unitary_model.specs.Realises.{Realises};
@@ -58,7 +58,7 @@ fn choose_walk(state: &RouteState<'_>, device: &Device) -> (u32, u32)
     requires placed { length state.now.placement ≡ device.now.size }
     requires left { state.now.rest ≡ [] → ⊥ }
     requires stuck { (j : ℕ) (g : Gate) → IsEmittable device.now.edges state.now.placement state.now.rest j g → ⊥ }
-    ensures { IsWalk device.now state.now.placement state.now.rest result.0 result.1 }
+    ensures { IsWalkSwap device.now state.now.placement state.now.rest result.0 result.1 }
 {
     // Their contracts say that the device is connected, and that the wires stand on different qubits.
     device.facts();
@@ -129,7 +129,7 @@ fn write_step(
     requires placed { length state.old.placement ≡ device.now.size }
     requires fine { All (IsFine device.now.size) state.old.rest }
     requires some { state.old.rest ≡ [] → ⊥ }
-    requires fits { IsFitting device.now.size written.old }
+    requires fits { IsFittingRun device.now.size written.old }
     requires left { IfSome teller.old.left (λ gs. gs ≡ state.old.rest) }
     requires seen { (ahead : Ahead) × IsLookoutOver ahead lookout.old device.now.size state.old.rest }
     ensures stepped { OnOk result ((ahead : Ahead) → IsLookoutOver ahead lookout.old device.now.size state.old.rest →
@@ -260,7 +260,7 @@ pub fn route(
     ensures cx_count { IfOk result (λ r.
         cx_count (ops r.body.gates) ≡ cx_count (ops circuit.now.gates) + 3 * r.swaps) }
     ensures few_swaps { IfOk result (λ r. (k : ℕ) → IsDiameter device.now.size device.now.edges (cost device.now) k →
-        r.swaps ≤ cx_count (ops circuit.now.gates) * bound device.now k) }
+        r.swaps ≤ cx_count (ops circuit.now.gates) * swap_bound device.now k) }
 {
     // Their contracts say how few swaps a run has, that the device is connected, and that `given` is a
     // placement.
@@ -301,7 +301,7 @@ pub fn route_traced(
     ensures cx_count { IfOk result (λ r.
         cx_count (ops r.0.body.gates) ≡ cx_count (ops circuit.now.gates) + 3 * r.0.swaps) }
     ensures few_swaps { IfOk result (λ r. (k : ℕ) → IsDiameter device.now.size device.now.edges (cost device.now) k →
-        r.0.swaps ≤ cx_count (ops circuit.now.gates) * bound device.now k) }
+        r.0.swaps ≤ cx_count (ops circuit.now.gates) * swap_bound device.now k) }
 {
     // Their contracts say how few swaps a run has, that the device is connected, and that `given` is a
     // placement.

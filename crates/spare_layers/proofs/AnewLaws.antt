@@ -18,10 +18,10 @@ use Rattle.gf2_linear.proofs.MatrixLaws.{below-identity, length-identity}
 use Rattle.gf2_linear.proofs.Ranks.{Choice, rank-basis}
 use Rattle.gf2_linear.proofs.RunLaws.{All_span-from, free-identity}
 use Rattle.gf2_linear.proofs.WideLaws.{spans-all}
-use Rattle.matroid_partition.specs.Partitions.{IsPartition, times}
+use Rattle.matroid_partition.specs.Partitions.{IsPartition, occurrences}
 use Rattle.matroid_partition.specs.Spares.{IsSparePartition}
 use Rattle.phase_poly.specs.Polys.{AreDihedral, PolyBody, Term, poly_of, walked_poly}
-use Rattle.phase_poly.specs.Resynthesis.{BlocksBelow, at_places, cnots, flip_gates, picked, resynth_turn, rows_of, term_rows}
+use Rattle.phase_poly.specs.Resynthesis.{BlocksBelow, at_places, cnot_gates, flip_gates, picked, resynth_turn, rows_of_terms, term_rows}
 use Rattle.phase_poly.proofs.BuildLaws.{dihedral-append, dihedral_flips, flips_t, odd_terms-poly, t_ops}
 use Rattle.phase_poly.proofs.BuildingLaws.{blocks-below, picked-more, rows_of-length, rows_of-places, term_rows-length}
 use Rattle.phase_poly.proofs.MapLaws.{Good, map_good, terms_rows}
@@ -69,17 +69,17 @@ from_map f Q [] h k d l = absurd (omega arith)
 from_map f Q (x ∷ xs) h zero d l = h 0 (f x) (omega arith)
 from_map f Q (x ∷ xs) h (suc k) d l = from_map f Q xs (λ j e m. h (suc j) e (omega arith)) k d (omega arith)
 
-pub block-within : {X : Type 0} (items : X → List ℕ) (ts : List Term) (m : ℕ) (bs : List X) → IsSparePartition (rows_of ts) m (map items bs) → (k : ℕ) (d : X) → k < length bs →
+pub block-within : {X : Type 0} (items : X → List ℕ) (ts : List Term) (m : ℕ) (bs : List X) → IsSparePartition (rows_of_terms ts) m (map items bs) → (k : ℕ) (d : X) → k < length bs →
     All (λ i. i < length ts) (items (get_or bs k d))
-block-within items ts m bs h k d l = subst (λ j. All (λ i. i < j) (items (get_or bs k d))) (rows_of-length ts) (from_map items (λ b. All (λ i. i < length (rows_of ts)) b) bs h.within k d l)
+block-within items ts m bs h k d l = subst (λ j. All (λ i. i < j) (items (get_or bs k d))) (rows_of-length ts) (from_map items (λ b. All (λ i. i < length (rows_of_terms ts)) b) bs h.within k d l)
 
-pub block-room : {X : Type 0} (items : X → List ℕ) (ts : List Term) (m : ℕ) (bs : List X) → IsSparePartition (rows_of ts) m (map items bs) → (k : ℕ) (d : X) → k < length bs →
+pub block-room : {X : Type 0} (items : X → List ℕ) (ts : List Term) (m : ℕ) (bs : List X) → IsSparePartition (rows_of_terms ts) m (map items bs) → (k : ℕ) (d : X) → k < length bs →
     length (term_rows ts (items (get_or bs k d))) ≤ rank (term_rows ts (items (get_or bs k d))) + m
 block-room items ts m bs h k d l =
     let b : List ℕ = items (get_or bs k d) in
     subst (λ (rs : List ℕ). length (term_rows ts (items (get_or bs k d))) ≤ rank rs + m) (rows_of-places ts (items (get_or bs k d)))
-    (subst (λ j. j ≤ rank (rows_at (rows_of ts) (items (get_or bs k d))) + m) (sym (term_rows-length ts (items (get_or bs k d))))
-    (from_map items (λ b. length b ≤ rank (rows_at (rows_of ts) b) + m) bs h.wide k d l))
+    (subst (λ j. j ≤ rank (rows_at (rows_of_terms ts) (items (get_or bs k d))) + m) (sym (term_rows-length ts (items (get_or bs k d))))
+    (from_map items (λ b. length b ≤ rank (rows_at (rows_of_terms ts) b) + m) bs h.wide k d l))
 
 pub block-rising : {X : Type 0} (items : X → List ℕ) (bs : List X) → All IsStrictlyIncreasing (map items bs) → (k : ℕ) (d : X) → k < length bs → IsStrictlyIncreasing (items (get_or bs k d))
 block-rising items bs h k d l = from_map items IsStrictlyIncreasing bs h k d l
@@ -89,7 +89,7 @@ terms-at ts n [] f w k d l = absurd (omega arith)
 terms-at ts n (p ∷ ps) f w zero d l = f p (0, 0) (w 0 0 (omega arith))
 terms-at ts n (p ∷ ps) f w (suc k) d l = terms-at ts n ps f (λ j e m. w (suc j) e (omega arith)) k d (omega arith)
 
-pub term_rows-of : (ts : List Term) (ps : List ℕ) → rows_of (at_places ts ps) ≡ term_rows ts ps
+pub term_rows-of : (ts : List Term) (ps : List ℕ) → rows_of_terms (at_places ts ps) ≡ term_rows ts ps
 term_rows-of ts [] = refl
 term_rows-of ts (p ∷ ps) = ap (λ z. (get_or ts p (0, 0)).0 ∷ z) (term_rows-of ts ps)
 
@@ -108,7 +108,7 @@ blocks-picked {X = X} items ts bs i d l = picked-more ts (map items bs) i (items
 
 -- ---- at the end
 pub record Ready (n m : ℕ) (p : PolyBody) (bs : List (List ℕ)) (mid last end : List Gate) (held to : List ℕ) (k c : ℕ) : Type 0 where
-  pub partition : IsSparePartition (rows_of p.terms) m bs
+  pub partition : IsSparePartition (rows_of_terms p.terms) m bs
   pub woven : IsWoven n m (length bs) mid held (picked p.terms bs)
   pub map : to ≡ spare_rows m p.map
   pub brought : IsBrought (n + m) held to mid last
@@ -116,7 +116,7 @@ pub record Ready (n m : ℕ) (p : PolyBody) (bs : List (List ℕ)) (mid last end
   pub flips : k ≡ length (flip_gates n p.flips)
   pub constant : c ≡ p.constant
 
-terms-count : (ts : List Term) (bs : List (List ℕ)) → BlocksBelow (length ts) bs → ((i : ℕ) → i < length ts → times i bs ≡ 1) → length (picked ts bs) ≡ length ts
+terms-count : (ts : List Term) (bs : List (List ℕ)) → BlocksBelow (length ts) bs → ((i : ℕ) → i < length ts → occurrences i bs ≡ 1) → length (picked ts bs) ≡ length ts
 terms-count ts bs h once = count (picked ts bs) ∙ picked_sum (λ e. 1) ts bs h once ∙ sym (count ts)
   where
     count : (us : List Term) → length us ≡ sum_of (λ e. 1) us
@@ -128,9 +128,9 @@ anew-core : (n m : ℕ) (A : List Gate) (bs : List (List ℕ)) (mid last end : L
 anew-core n m A bs mid last end held to k c fa r =
     let w = r.woven in
     let ts : List Term = (poly_of n A).terms in
-    let long : length (rows_of (poly_of n A).terms) ≡ length (poly_of n A).terms = rows_of-length (poly_of n A).terms in
-    let below : BlocksBelow (length (poly_of n A).terms) bs = subst (λ j. BlocksBelow j bs) long (blocks-below (length (rows_of (poly_of n A).terms)) bs r.partition.within) in
-    let once : (i : ℕ) → i < length (poly_of n A).terms → times i bs ≡ 1 = λ i l. r.partition.once i (subst (λ j. i < j) (sym long) l) in
+    let long : length (rows_of_terms (poly_of n A).terms) ≡ length (poly_of n A).terms = rows_of-length (poly_of n A).terms in
+    let below : BlocksBelow (length (poly_of n A).terms) bs = subst (λ j. BlocksBelow j bs) long (blocks-below (length (rows_of_terms (poly_of n A).terms)) bs r.partition.within) in
+    let once : (i : ℕ) → i < length (poly_of n A).terms → occurrences i bs ≡ 1 = λ i l. r.partition.once i (subst (λ j. i < j) (sym long) l) in
     let built : IsSpareBuilt n m last (spare_rows m (poly_of n A).map) (picked (poly_of n A).terms bs) =
     subst (λ (z : List ℕ). IsSpareBuilt n m last z (picked (poly_of n A).terms bs)) r.map (built-last n m (length bs) mid last held to (picked (poly_of n A).terms bs) r.woven r.brought) in
     let same : SameSpared n m (resynth_turn n (poly_of n A).flips (poly_of n A).constant) A (last ++ flip_gates n (poly_of n A).flips) =
@@ -154,34 +154,34 @@ anew-core n m A bs mid last end held to k c fa r =
           omega (arith, a, b, g, d, e, h);
     }
   where
-    woven-end : (cs : List (List (ℕ × ℕ))) (pss : List (List (ℕ × ℕ))) (ds : List (ℕ × ℕ)) (gs : List Gate) → gs ≡ woven cs pss → length cs ≡ length pss → gs ++ cnots ds ≡ woven (cs ++ ds ∷ []) pss
-    woven-end cs pss ds gs e l = ap (λ z. z ++ cnots ds) e ∙ sym (woven-last cs pss ds l)
+    woven-end : (cs : List (List (ℕ × ℕ))) (pss : List (List (ℕ × ℕ))) (ds : List (ℕ × ℕ)) (gs : List Gate) → gs ≡ woven cs pss → length cs ≡ length pss → gs ++ cnot_gates ds ≡ woven (cs ++ ds ∷ []) pss
+    woven-end cs pss ds gs e l = ap (λ z. z ++ cnot_gates ds) e ∙ sym (woven-last cs pss ds l)
 
 pub anew-done : (n m : ℕ) (p : PolyBody) (bs : List (List ℕ)) (mid last end : List Gate) (held to : List ℕ) (k c : ℕ) → Ready n m p bs mid last end held to k c →
     AnewFor n m (length bs) p end ((2 * k + (8 - c)) % 8)
 anew-done n m p bs mid last end held to k c r A fa e = anew-core n m A bs mid last end held to k c fa (subst (λ (q : PolyBody). Ready n m q bs mid last end held to k c) e r)
 
 -- ---- the layer
-dealt-of : (n m j : ℕ) (A : List Gate) (rows : List ℕ) (p : PolyBody) (bs : List (List ℕ)) → p ≡ poly_of n A → rows ≡ rows_of p.terms → IsSparePartition rows m bs → length bs ≡ j →
+dealt-of : (n m j : ℕ) (A : List Gate) (rows : List ℕ) (p : PolyBody) (bs : List (List ℕ)) → p ≡ poly_of n A → rows ≡ rows_of_terms p.terms → IsSparePartition rows m bs → length bs ≡ j →
     ((other : List (List ℕ)) → IsSparePartition rows m other → j ≤ length other) → Dealt n m A j
 dealt-of n m j A rows p bs e r h count f =
-    let is : rows ≡ rows_of (poly_of n A).terms = r ∙ ap (λ (q : PolyBody). rows_of q.terms) e in record {
+    let is : rows ≡ rows_of_terms (poly_of n A).terms = r ∙ ap (λ (q : PolyBody). rows_of_terms q.terms) e in record {
       blocks = bs;
       partition = subst (λ (rs : List ℕ). IsSparePartition rs m bs) is h;
       count = count;
       least = subst (λ (rs : List ℕ). (other : List (List ℕ)) → IsSparePartition rs m other → j ≤ length other) is f;
     }
 
-pub layer-anew : (n m t j k : ℕ) (A B : List Gate) (rows : List ℕ) (p : PolyBody) (bs : List (List ℕ)) → p ≡ poly_of n A → rows ≡ rows_of p.terms → IsSparePartition rows m bs → length bs ≡ j →
+pub layer-anew : (n m t j k : ℕ) (A B : List Gate) (rows : List ℕ) (p : PolyBody) (bs : List (List ℕ)) → p ≡ poly_of n A → rows ≡ rows_of_terms p.terms → IsSparePartition rows m bs → length bs ≡ j →
     ((other : List (List ℕ)) → IsSparePartition rows m other → j ≤ length other) → ((other : List (List ℕ)) → IsPartition rows other → k ≤ length other) →
     j < k → IsAnew n m j A B t → IsSparedLayer n m A B t
 layer-anew n m t j k A B rows p bs e r h count f g l a =
-    let is : rows ≡ rows_of (poly_of n A).terms = r ∙ ap (λ (q : PolyBody). rows_of q.terms) e in
+    let is : rows ≡ rows_of_terms (poly_of n A).terms = r ∙ ap (λ (q : PolyBody). rows_of_terms q.terms) e in
     (j, (dealt-of n m j A rows p bs e r h count f, inr ((λ other o. let i = g other (subst (λ (rs : List ℕ). IsPartition rs other) (sym is) o) in omega (arith, i, l)), a)))
 
-pub layer-kept : (n m t j k : ℕ) (A B : List Gate) (rows : List ℕ) (p : PolyBody) (bs plain : List (List ℕ)) → p ≡ poly_of n A → rows ≡ rows_of p.terms → IsSparePartition rows m bs → length bs ≡ j →
+pub layer-kept : (n m t j k : ℕ) (A B : List Gate) (rows : List ℕ) (p : PolyBody) (bs plain : List (List ℕ)) → p ≡ poly_of n A → rows ≡ rows_of_terms p.terms → IsSparePartition rows m bs → length bs ≡ j →
     ((other : List (List ℕ)) → IsSparePartition rows m other → j ≤ length other) → IsPartition rows plain → length plain ≡ k →
     k ≤ j → B ≡ A → t ≡ 0 → IsSparedLayer n m A B t
 layer-kept n m t j k A B rows p bs plain e r h count f g long l same none =
-    let is : rows ≡ rows_of (poly_of n A).terms = r ∙ ap (λ (q : PolyBody). rows_of q.terms) e in
+    let is : rows ≡ rows_of_terms (poly_of n A).terms = r ∙ ap (λ (q : PolyBody). rows_of_terms q.terms) e in
     (j, (dealt-of n m j A rows p bs e r h count f, inl ((λ u. let i = u plain (subst (λ (rs : List ℕ). IsPartition rs plain) is g) in absurd (omega (arith, i, l, long))), (same, none))))

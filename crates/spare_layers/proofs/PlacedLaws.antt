@@ -12,13 +12,13 @@ use Rattle.std.proofs.lemmas.Bool.Decides.{nat_tests}
 use Rattle.gf2_linear.specs.Wide.{StandAmong, count_of}
 use Rattle.gf2_linear.proofs.WideLaws.{count-at, count-where}
 use Rattle.phase_poly.specs.Polys.{Term}
-use Rattle.phase_poly.specs.Resynthesis.{at_places, rows_of}
+use Rattle.phase_poly.specs.Resynthesis.{at_places, rows_of_terms}
 use Rattle.circuit_list.specs.declared.Gate.{Gate}
 use Rattle.circuit_list.specs.declared.Gate.TheVariants.{P}
 use Rattle.phase_poly.proofs.BuildingLaws.{places-more}
 use Rattle.phase_poly.proofs.MapLaws.{AreRows, NoTerm}
-use Rattle.spare_layers.specs.SparedLayers.{Apart, AreApart, phases}
-use Rattle.spare_layers.specs.Weaving.{AllDiffer, first_place, placed}
+use Rattle.spare_layers.specs.SparedLayers.{Apart, HaveOwnWires, phases}
+use Rattle.spare_layers.specs.Weaving.{AllDiffer, first_place, placed_phases}
 
 -- ---- the first place of a row
 is_same : (r v : ℕ) → nat_eq r v ≡ true → r ≡ v
@@ -69,15 +69,15 @@ place-none v (r ∷ rows) f = go (nat_eq r v) refl (place-none v rows (λ k g. f
     go false g h = ap (λ k. suc k) h
 
 -- ---- different wires
-placed-other : (rows : List ℕ) (v : ℕ) (ts : List Term) → Contains rows v → All (Contains rows) (rows_of ts) → ((j : ℕ) → j < length ts → v ≢ (get_or ts j (0, 0)).0)
-    → Apart (first_place v rows) (placed rows ts)
+placed-other : (rows : List ℕ) (v : ℕ) (ts : List Term) → Contains rows v → All (Contains rows) (rows_of_terms ts) → ((j : ℕ) → j < length ts → v ≢ (get_or ts j (0, 0)).0)
+    → Apart (first_place v rows) (placed_phases rows ts)
 placed-other rows v [] c s d = tt
 placed-other rows v (e ∷ ts) c s d = (
   (λ g. d 0 (omega arith) (sym (placed-row v rows c) ∙ ap (λ k. get_or rows k 0) (sym g) ∙ placed-row e.0 rows (s 0 e.0 (omega arith)))),
   placed-other rows v ts c (λ k x g. s (suc k) x (omega arith)) (λ j g. d (suc j) (omega arith)),
 )
 
-pub placed-apart : (rows : List ℕ) (ts : List Term) → AllDiffer ts → All (Contains rows) (rows_of ts) → AreApart (placed rows ts)
+pub placed-apart : (rows : List ℕ) (ts : List Term) → AllDiffer ts → All (Contains rows) (rows_of_terms ts) → HaveOwnWires (placed_phases rows ts)
 placed-apart rows [] d s = tt
 placed-apart rows (e ∷ ts) d s = (
   placed-other rows e.0 ts (s 0 e.0 (omega arith)) (λ k x g. s (suc k) x (omega arith)) (λ j g. d 0 (suc j) (omega arith) (omega arith)),
@@ -147,12 +147,12 @@ differ-at ts ps d h w i j g l =
     (ap (λ (t : Term). t.0) (sym (places-get ts ps i (omega (arith, g, inside)))) ∙ e ∙ ap (λ (t : Term). t.0) (places-get ts ps j inside))
 
 -- ---- one phase more
-phases-placed : (rows : List ℕ) (ts : List Term) (e : Term) → phases (placed rows (ts ++ e ∷ [])) ≡ phases (placed rows ts) ++ P e.1 (first_place e.0 rows) ∷ []
+phases-placed : (rows : List ℕ) (ts : List Term) (e : Term) → phases (placed_phases rows (ts ++ e ∷ [])) ≡ phases (placed_phases rows ts) ++ P e.1 (first_place e.0 rows) ∷ []
 phases-placed rows [] e = refl
 phases-placed rows (t ∷ ts) e = ap (λ z. P t.1 (first_place t.0 rows) ∷ z) (phases-placed rows ts e)
 
-pub phases-more : (rows : List ℕ) (ts : List Term) (ps : List ℕ) (i d : ℕ) (e : Term) (first gates next : List Gate) → i < length ps → gates ≡ first ++ phases (placed rows (at_places ts (take i ps)))
-    → e ≡ get_or ts (get_or ps i d) (0, 0) → next ≡ gates ++ P e.1 (first_place e.0 rows) ∷ [] → next ≡ first ++ phases (placed rows (at_places ts (take (i + 1) ps)))
+pub phases-more : (rows : List ℕ) (ts : List Term) (ps : List ℕ) (i d : ℕ) (e : Term) (first gates next : List Gate) → i < length ps → gates ≡ first ++ phases (placed_phases rows (at_places ts (take i ps)))
+    → e ≡ get_or ts (get_or ps i d) (0, 0) → next ≡ gates ++ P e.1 (first_place e.0 rows) ∷ [] → next ≡ first ++ phases (placed_phases rows (at_places ts (take (i + 1) ps)))
 phases-more rows ts ps i d e first gates next l g h n =
-    n ∙ ap (λ z. z ++ P e.1 (first_place e.0 rows) ∷ []) g ∙ append_assoc first (phases (placed rows (at_places ts (take i ps)))) (P e.1 (first_place e.0 rows) ∷ [])
-    ∙ ap (λ z. first ++ z) (sym (phases-placed rows (at_places ts (take i ps)) e) ∙ ap (λ (us : List Term). phases (placed rows us)) (places-more ts ps i d [] e l h))
+    n ∙ ap (λ z. z ++ P e.1 (first_place e.0 rows) ∷ []) g ∙ append_assoc first (phases (placed_phases rows (at_places ts (take i ps)))) (P e.1 (first_place e.0 rows) ∷ [])
+    ∙ ap (λ z. first ++ z) (sym (phases-placed rows (at_places ts (take i ps)) e) ∙ ap (λ (us : List Term). phases (placed_phases rows us)) (places-more ts ps i d [] e l h))

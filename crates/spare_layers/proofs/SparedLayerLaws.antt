@@ -20,7 +20,7 @@ use Rattle.unitary_model.proofs.RingLaws.{turn_same, turn-turn, double-turn, dou
 use Rattle.circuit_list.specs.declared.Gate.{Gate}
 use Rattle.circuit_list.specs.declared.Gate.TheVariants.{H, X, P, Cx}
 use Rattle.circuit_list.specs.Gates.{ops}
-use Rattle.path_parity.specs.PathSum.{label, xor, Wires, with_label, add_labels, flipped, fresh, last_labels, exponent, odd_over, value}
+use Rattle.path_parity.specs.PathSum.{label, xor, Wires, with_label, add_labels, flipped, fresh, last_labels, exponent, odd_over, label_value}
 use Rattle.path_parity.specs.PathForm.{hcount}
 use Rattle.path_parity.proofs.PathSumLaws.{bits_of}
 use Rattle.path_parity.proofs.Totals.{total, by_totals}
@@ -46,7 +46,7 @@ labels-counter N (Cx c t ∷ gs) w a b f = labels-counter N gs (with_label w t (
 exponent-counter : (N M : ℕ) (v : Bits) (gs : List Gate) (w : Wires) (a b : ℕ) → AreDihedral N gs → exponent M v gs w a ≡ exponent M v gs w b
 exponent-counter N M v [] w a b f = refl
 exponent-counter N M v (H q ∷ gs) w a b f = absurd f.0
-exponent-counter N M v (P k q ∷ gs) w a b f = ap (λ e. e + cond (value M v (w q)) k 0) (exponent-counter N M v gs w a b f.1)
+exponent-counter N M v (P k q ∷ gs) w a b f = ap (λ e. e + cond (label_value M v (w q)) k 0) (exponent-counter N M v gs w a b f.1)
 exponent-counter N M v (X q ∷ gs) w a b f = ap (λ e. e + 2) (exponent-counter N M v gs (with_label w q (flipped (w q))) a b f.1)
 exponent-counter N M v (Cx c t ∷ gs) w a b f = exponent-counter N M v gs (with_label w t (add_labels (w t) (w c))) a b f.1
 
@@ -113,7 +113,7 @@ spared_turns n m t A B fa fb s = record {
       let w : Wires = start n x in
       let g : Agrees N p w = agrees_spare n m x c in
       layer_at A B n t x (no_had N A fa) (no_had N B fb)
-      (fun_ext (λ q. ap (λ (u : Wires). value n x (u q)) (labels-counter N B w n N fb) ∙ bit x c q (cases_lt q N) ∙ ap (λ (u : Wires). value n x (u q)) (labels-counter N A w N n fa)))
+      (fun_ext (λ q. ap (λ (u : Wires). label_value n x (u q)) (labels-counter N B w n N fb) ∙ bit x c q (cases_lt q N) ∙ ap (λ (u : Wires). label_value n x (u q)) (labels-counter N A w N n fa)))
       (let a = marks A w N in let b = marks B w N in
       let ea = exponent-dihedral n x N A w fa in let eb = exponent-dihedral n x N B w fb in
       let pa = phase_sum-signed n x a (eighths N A w fa) in let pb = phase_sum-signed n x b (eighths N B w fb) in
@@ -131,9 +131,9 @@ spared_turns n m t A B fa fb s = record {
     constants : (gs : List Gate) (x : Bits) → IsClean n x → AreDihedral (n + m) gs → (spared_poly n m gs).constant % 8 ≡ (constant (marks gs (start n x) (n + m)) + flip_turn gs) % 8
     constants gs x c f = walked_constant (n + m) gs (spare_poly n m) (start n x) f (agrees_spare n m x c) ∙ ap (λ z. z % 8) (zero-add (constant (marks gs (start n x) (n + m)) + flip_turn gs))
 
-    bit : (x : Bits) → IsClean n x → (q : ℕ) → (q < n + m) ⊎ (n + m ≤ q) → value n x (last_labels B (start n x) (n + m) q) ≡ value n x (last_labels A (start n x) (n + m) q)
+    bit : (x : Bits) → IsClean n x → (q : ℕ) → (q < n + m) ⊎ (n + m ≤ q) → label_value n x (last_labels B (start n x) (n + m) q) ≡ label_value n x (last_labels A (start n x) (n + m) q)
     bit x c q (inl h) =
         let a = agrees_all (n + m) A (spare_poly n m) (start n x) fa (agrees_spare n m x c) in
         let b = agrees_all (n + m) B (spare_poly n m) (start n x) fb (agrees_spare n m x c) in
         λ i. xor (odd_over n x ((sym (b.rows q h) ∙ ap (λ z. get_or z q 0) s.map ∙ a.rows q h) i)) ((sym (b.bits q h) ∙ ap (λ z. has z q) s.flips ∙ a.bits q h) i)
-    bit x c q (inr h) = ap (value n x) (elsewhere (n + m) q B (start n x) h fb ∙ sym (elsewhere (n + m) q A (start n x) h fa))
+    bit x c q (inr h) = ap (label_value n x) (elsewhere (n + m) q B (start n x) h fb ∙ sym (elsewhere (n + m) q A (start n x) h fa))

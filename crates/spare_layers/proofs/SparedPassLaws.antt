@@ -16,7 +16,7 @@ use Rattle.unitary_model.proofs.AmplitudeLaws.{Turns-amplitude}
 use Rattle.circuit_list.specs.declared.Gate.{Gate}
 use Rattle.circuit_list.specs.declared.Gate.TheVariants.{H, X, P, Cx}
 use Rattle.circuit_list.specs.Gates.{ops, IsFine}
-use Rattle.circuit_layers.specs.Layers.{LayerBody, first_walk, hadamards, layers_of, line, linked}
+use Rattle.circuit_layers.specs.Layers.{LayerBody, first_layer_walk, hadamards_on, layers_of, layer_gates, linked}
 use Rattle.phase_poly.specs.Polys.{AreDihedral}
 use Rattle.phase_poly.specs.Resynthesis.{AllBelow}
 use Rattle.phase_poly.specs.Replaced.{AreFine, DihedralLayers}
@@ -78,7 +78,7 @@ spared_cleanly n m t [] [] f g h = subst (λ k. Cleanly n k [] []) (sym h) (Clea
 spared_cleanly n m t (l ∷ ls) (k ∷ ks) f g h =
     let i : ℕ = h.1.0 in
     let j : ℕ = h.1.1.0 in
-    let hs : List Gate = hadamards l.hadamards in
+    let hs : List Gate = hadamards_on l.hadamards in
     let one : Cleanly n i (ops l.gates) (ops k.gates) = layer_cleanly n m i l.gates k.gates f.0 h.1.1.1.0 in
     let rest : Cleanly n j (ops (linked ls)) (ops (linked ks)) = spared_cleanly n m j ls ks f.1 g.1 h.1.1.1.1.0 in
     let wires : WiresBelow n (ops l.gates) = wires_fine n l.gates (dihedral_fine n l.gates f.0) in
@@ -87,7 +87,7 @@ spared_cleanly n m t (l ∷ ls) (k ∷ ks) f g h =
     (Cleanly_then n i 0 (ops l.gates) (ops k.gates) (ops hs) (ops hs) wires one (Cleanly_itself n (ops hs)))) in
     let both : WiresBelow n (ops (l.gates ++ hs)) = wires_fine n (l.gates ++ hs) (fine-append n l.gates hs (dihedral_fine n l.gates f.0) (hadamards_fine n l.hadamards g.0)) in
     Cleanly_same n (i + 0 + j) t (ops (linked (l ∷ ls))) (ops (linked (k ∷ ks))) (let e = h.1.1.1.1.1 in omega (arith, e))
-    (subst (λ (qs : List ℕ). Cleanly n (i + 0 + j) (ops (linked (l ∷ ls))) (ops ((k.gates ++ hadamards qs) ++ linked ks))) (sym h.0)
+    (subst (λ (qs : List ℕ). Cleanly n (i + 0 + j) (ops (linked (l ∷ ls))) (ops ((k.gates ++ hadamards_on qs) ++ linked ks))) (sym h.0)
     (subst (λ us. Cleanly n (i + 0 + j) us (ops ((k.gates ++ hs) ++ linked ks))) (sym (ops-append (l.gates ++ hs) (linked ls))) (subst (Cleanly n (i + 0 + j) (ops (l.gates ++ hs) ++ ops (linked ls))) (sym (ops-append (k.gates ++ hs) (linked ks)))
     (Cleanly_then n (i + 0) j (ops (l.gates ++ hs)) (ops (k.gates ++ hs)) (ops (linked ls)) (ops (linked ks)) both here rest))))
 spared_cleanly n m t [] (k ∷ ks) f g h = absurd h
@@ -96,9 +96,9 @@ spared_cleanly n m t (l ∷ ls) [] f g h = absurd h
 pub spared_fine : (n m t : ℕ) (ls ms : List LayerBody) → DihedralLayers n ls → HadsBelow n ls → AreSpared n m ls ms t → AreFine (n + m) (linked ms)
 spared_fine n m t [] [] f g h = tt
 spared_fine n m t (l ∷ ls) (k ∷ ks) f g h =
-    fine-append (n + m) (line k) (linked ks)
-    (fine-append (n + m) k.gates (hadamards k.hadamards) (dihedral_fine (n + m) k.gates (layer_dihedral n m h.1.0 l.gates k.gates f.0 h.1.1.1.0))
-    (subst (λ (qs : List ℕ). AreFine (n + m) (hadamards qs)) (sym h.0) (hadamards_fine (n + m) l.hadamards (below_more n m l.hadamards g.0))))
+    fine-append (n + m) (layer_gates k) (linked ks)
+    (fine-append (n + m) k.gates (hadamards_on k.hadamards) (dihedral_fine (n + m) k.gates (layer_dihedral n m h.1.0 l.gates k.gates f.0 h.1.1.1.0))
+    (subst (λ (qs : List ℕ). AreFine (n + m) (hadamards_on qs)) (sym h.0) (hadamards_fine (n + m) l.hadamards (below_more n m l.hadamards g.0))))
     (spared_fine n m h.1.1.0 ls ks f.1 g.1 h.1.1.1.1.0)
 spared_fine n m t [] (k ∷ ks) f g h = absurd h
 spared_fine n m t (l ∷ ls) [] f g h = absurd h
@@ -112,9 +112,9 @@ spared_power n m t (l ∷ ls) [] h = absurd h
 pub spared_t_gates : (n m t : ℕ) (ls ms : List LayerBody) → AreSpared n m ls ms t → t_count (ops (linked ms)) ≤ t_count (ops (linked ls))
 spared_t_gates n m t [] [] h = omega arith
 spared_t_gates n m t (l ∷ ls) (k ∷ ks) h =
-    let a = t_ops (line k) (linked ks) in let b = t_ops k.gates (hadamards k.hadamards) in
-    let c = t_ops (line l) (linked ls) in let d = t_ops l.gates (hadamards l.hadamards) in
-    let e : t_count (ops (hadamards k.hadamards)) ≡ t_count (ops (hadamards l.hadamards)) = ap (λ (qs : List ℕ). t_count (ops (hadamards qs))) h.0 in
+    let a = t_ops (layer_gates k) (linked ks) in let b = t_ops k.gates (hadamards_on k.hadamards) in
+    let c = t_ops (layer_gates l) (linked ls) in let d = t_ops l.gates (hadamards_on l.hadamards) in
+    let e : t_count (ops (hadamards_on k.hadamards)) ≡ t_count (ops (hadamards_on l.hadamards)) = ap (λ (qs : List ℕ). t_count (ops (hadamards_on qs))) h.0 in
     let one = layer_t n m h.1.0 l.gates k.gates h.1.1.1.0 in
     let rest = spared_t_gates n m h.1.1.0 ls ks h.1.1.1.1.0 in
     omega (arith, a, b, c, d, e, one, rest)
@@ -123,11 +123,11 @@ spared_t_gates n m t (l ∷ ls) [] h = absurd h
 
 -- ---- the circuit
 hads_of : (n : ℕ) (gs : List Gate) → AreFine n gs → HadsBelow n (layers_of gs)
-hads_of n gs f = hads_walked n gs first_walk f tt
+hads_of n gs f = hads_walked n gs first_layer_walk f tt
 
 linked_fine : (n : ℕ) (ls : List LayerBody) → DihedralLayers n ls → HadsBelow n ls → AreFine n (linked ls)
 linked_fine n [] f g = tt
-linked_fine n (l ∷ ls) f g = fine-append n (line l) (linked ls) (fine-append n l.gates (hadamards l.hadamards) (dihedral_fine n l.gates f.0) (hadamards_fine n l.hadamards g.0)) (linked_fine n ls f.1 g.1)
+linked_fine n (l ∷ ls) f g = fine-append n (layer_gates l) (linked ls) (fine-append n l.gates (hadamards_on l.hadamards) (dihedral_fine n l.gates f.0) (hadamards_fine n l.hadamards g.0)) (linked_fine n ls f.1 g.1)
 
 pub circuit_fine : (n m t : ℕ) (gs new : List Gate) → AreFine n gs → IsSparedCircuit n m gs new t → AreFine (n + m) new
 circuit_fine n m t gs new f h = subst (AreFine (n + m)) (sym h.gates) (spared_fine n m t (layers_of gs) h.layers (layers_dihedral n gs f) (hads_of n gs f) h.spared)
@@ -175,16 +175,16 @@ spared-more n m t j [] (o ∷ ms) l k h e g = absurd h
 spared-more n m t j (a ∷ ls) [] l k h e g = absurd h
 
 list_more : (n m t j : ℕ) (ls : List LayerBody) (l : LayerBody) (gs part : List Gate) → IsSparedList n m ls gs t → IsSparedLayer n m l.gates part j →
-    IsSparedList n m (ls ++ l ∷ []) (gs ++ (part ++ hadamards l.hadamards)) ((t + j) % 8)
+    IsSparedList n m (ls ++ l ∷ []) (gs ++ (part ++ hadamards_on l.hadamards)) ((t + j) % 8)
 list_more n m t j ls l gs part h g =
     let k : LayerBody = record { gates = part; hadamards = l.hadamards } in record {
       layers = h.layers ++ k ∷ [];
       spared = spared-more n m t j ls h.layers l k h.spared refl g;
-      gates = ap (λ z. z ++ (part ++ hadamards l.hadamards)) h.gates ∙ ap (λ z. linked h.layers ++ z) (sym (append-nil (part ++ hadamards l.hadamards))) ∙ sym (linked-append h.layers (k ∷ []));
+      gates = ap (λ z. z ++ (part ++ hadamards_on l.hadamards)) h.gates ∙ ap (λ z. linked h.layers ++ z) (sym (append-nil (part ++ hadamards_on l.hadamards))) ∙ sym (linked-append h.layers (k ∷ []));
     }
 
 pub list-next : (n m t j : ℕ) (layers : List LayerBody) (i : ℕ) (d : LayerBody) (gs part next : List Gate) → i < length layers → IsSparedList n m (take i layers) gs t →
-    IsSparedLayer n m (get_or layers i d).gates part j → next ≡ gs ++ (part ++ hadamards (get_or layers i d).hadamards) → IsSparedList n m (take (i + 1) layers) next ((t + j) % 8)
+    IsSparedLayer n m (get_or layers i d).gates part j → next ≡ gs ++ (part ++ hadamards_on (get_or layers i d).hadamards) → IsSparedList n m (take (i + 1) layers) next ((t + j) % 8)
 list-next n m t j layers i d gs part next l h g e =
     subst (λ (ls : List LayerBody). IsSparedList n m ls next ((t + j) % 8)) (sym (take-suc layers i d l) ∙ ap (λ k. take k layers) (one i))
     (subst (λ (z : List Gate). IsSparedList n m (take i layers ++ get_or layers i d ∷ []) z ((t + j) % 8)) (sym e) (list_more n m t j (take i layers) (get_or layers i d) gs part h g))

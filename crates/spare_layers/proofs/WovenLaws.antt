@@ -9,15 +9,15 @@ use Rattle.std.proofs.lemmas.Bool.Decides.{nat_tests}
 use Rattle.circuit_list.specs.declared.Gate.{Gate}
 use Rattle.circuit_list.specs.declared.Gate.TheVariants.{P}
 use Rattle.gf2_linear.specs.Eliminations.{Pairs}
-use Rattle.gf2_linear.specs.Matrices.{identity_rows, run}
+use Rattle.gf2_linear.specs.Matrices.{identity_rows, added_all}
 use Rattle.gf2_linear.proofs.EliminationLaws.{All-pairs}
 use Rattle.phase_poly.specs.Rows.{has}
 use Rattle.phase_poly.specs.Polys.{AreDihedral, Term, coefficient, with_term, PolyBody, first_poly, polyed, polyed_all, walked_poly}
-use Rattle.phase_poly.specs.Resynthesis.{cnots, flip_gates, resynth_turn, rows_of}
+use Rattle.phase_poly.specs.Resynthesis.{cnot_gates, flip_gates, resynth_turn, rows_of_terms}
 use Rattle.phase_poly.proofs.PolyLaws.{coefficient-with}
 use Rattle.phase_poly.proofs.BuildLaws.{polyed-append, dihedral-append, coefficient-append, odd_terms-append, t_ops, zero_has, cnots_map, cnots_kept, cnots_t, dihedral_cnots, flips_done, no_flips, same_flips, constant_below}
-use Rattle.spare_layers.specs.SparedLayers.{AllApart, AreApart, Phase, SameSpared, phase_count, phases, spare_poly, spare_rows, spared_poly, woven}
-use Rattle.spare_layers.specs.Weaving.{AllDiffer, AreTerms, IsBlockPut, IsBrought, IsSpareBuilt, IsWoven, first_place, placed}
+use Rattle.spare_layers.specs.SparedLayers.{AllApart, HaveOwnWires, Phase, SameSpared, phase_count, phases, spare_poly, spare_rows, spared_poly, woven}
+use Rattle.spare_layers.specs.Weaving.{AllDiffer, AreTerms, IsBlockPut, IsBrought, IsSpareBuilt, IsWoven, first_place, placed_phases}
 use Rattle.spare_layers.proofs.WideWalkLaws.{spared-of}
 use Rattle.spare_layers.proofs.PlacedLaws.{placed-apart, placed-row, placed-within}
 
@@ -25,16 +25,16 @@ use Rattle.spare_layers.proofs.PlacedLaws.{placed-apart, placed-row, placed-with
 pub spare-none : (n m : ℕ) (held : List ℕ) → held ≡ spare_rows m (identity_rows n) → IsSpareBuilt n m [] held []
 spare-none n m held e = record { dihedral = tt; map = sym e; flips = refl; constant = refl; coefficients = λ r. refl; t_gates = refl }
 
-spare-cnots : (n m : ℕ) (gs : List Gate) (held : List ℕ) (done : List Term) (pairs : List (ℕ × ℕ)) → Pairs (n + m) pairs → IsSpareBuilt n m gs held done → IsSpareBuilt n m (gs ++ cnots pairs) (run held pairs) done
+spare-cnots : (n m : ℕ) (gs : List Gate) (held : List ℕ) (done : List Term) (pairs : List (ℕ × ℕ)) → Pairs (n + m) pairs → IsSpareBuilt n m gs held done → IsSpareBuilt n m (gs ++ cnot_gates pairs) (added_all held pairs) done
 spare-cnots n m gs held done pairs f h =
-    let e = polyed-append gs (cnots pairs) (spare_poly n m) in
+    let e = polyed-append gs (cnot_gates pairs) (spare_poly n m) in
     let k = cnots_kept pairs (spared_poly n m gs) h.flips in record {
-      dihedral = dihedral-append (n + m) gs (cnots pairs) h.dihedral (dihedral_cnots (n + m) pairs f);
-      map = ap (λ (r : PolyBody). r.map) e ∙ cnots_map pairs (spared_poly n m gs) ∙ ap (λ z. run z pairs) h.map;
+      dihedral = dihedral-append (n + m) gs (cnot_gates pairs) h.dihedral (dihedral_cnots (n + m) pairs f);
+      map = ap (λ (r : PolyBody). r.map) e ∙ cnots_map pairs (spared_poly n m gs) ∙ ap (λ z. added_all z pairs) h.map;
       flips = ap (λ (r : PolyBody). r.flips) e ∙ k.flips;
       constant = ap (λ (r : PolyBody). r.constant) e ∙ k.constant ∙ h.constant;
       coefficients = λ r. ap (λ (p : PolyBody). coefficient r p.terms % 8) e ∙ ap (λ z. coefficient r z % 8) k.terms ∙ h.coefficients r;
-      t_gates = let a = t_ops gs (cnots pairs) in let b = cnots_t pairs in let c = h.t_gates in omega (arith, a, b, c);
+      t_gates = let a = t_ops gs (cnot_gates pairs) in let b = cnots_t pairs in let c = h.t_gates in omega (arith, a, b, c);
     }
 
 spare-phase : (n m k q : ℕ) (gs : List Gate) (held : List ℕ) (done : List Term) → q < n + m → 0 < k → k < 8 → IsSpareBuilt n m gs held done → IsSpareBuilt n m (gs ++ P k q ∷ []) held (done ++ (get_or held q 0, k) ∷ [])
@@ -60,8 +60,8 @@ spare-phase n m k q gs held done lq lk hk h =
     sums : (x d a : ℕ) → x % 8 ≡ d % 8 → (x + a) % 8 ≡ (d + (a + 0)) % 8
     sums x d a e = omega (arith, e)
 
-spare-phases : (n m : ℕ) (held : List ℕ) (es : List Term) (gs : List Gate) (done : List Term) → length held ≡ n + m → AreTerms n es → All (Contains held) (rows_of es)
-    → IsSpareBuilt n m gs held done → IsSpareBuilt n m (gs ++ phases (placed held es)) held (done ++ es)
+spare-phases : (n m : ℕ) (held : List ℕ) (es : List Term) (gs : List Gate) (done : List Term) → length held ≡ n + m → AreTerms n es → All (Contains held) (rows_of_terms es)
+    → IsSpareBuilt n m gs held done → IsSpareBuilt n m (gs ++ phases (placed_phases held es)) held (done ++ es)
 spare-phases n m held [] gs done l f s h = subst (λ (z : List Gate). IsSpareBuilt n m z held (done ++ [])) (sym (append-nil gs)) (subst (λ (z : List Term). IsSpareBuilt n m gs held z) (sym (append-nil done)) h)
 spare-phases n m held (e ∷ es) gs done l f s h =
     let here : Contains held e.0 = s 0 e.0 (omega arith) in
@@ -70,8 +70,8 @@ spare-phases n m held (e ∷ es) gs done l f s h =
     let one : IsSpareBuilt n m (gs ++ P e.1 (first_place e.0 held) ∷ []) held (done ++ e ∷ []) =
     subst (λ v. IsSpareBuilt n m (gs ++ P e.1 (first_place e.0 held) ∷ []) held (done ++ (v, e.1) ∷ [])) (placed-row e.0 held here)
     (spare-phase n m e.1 (first_place e.0 held) gs held done (subst (λ k. first_place e.0 held < k) l within) fine.0 fine.1.0 h) in
-    subst (λ (z : List Gate). IsSpareBuilt n m z held (done ++ (e ∷ es))) (append_assoc gs (P e.1 (first_place e.0 held) ∷ []) (phases (placed held es)))
-    (subst (λ (z : List Term). IsSpareBuilt n m ((gs ++ P e.1 (first_place e.0 held) ∷ []) ++ phases (placed held es)) held z) (append_assoc done (e ∷ []) es)
+    subst (λ (z : List Gate). IsSpareBuilt n m z held (done ++ (e ∷ es))) (append_assoc gs (P e.1 (first_place e.0 held) ∷ []) (phases (placed_phases held es)))
+    (subst (λ (z : List Term). IsSpareBuilt n m ((gs ++ P e.1 (first_place e.0 held) ∷ []) ++ phases (placed_phases held es)) held z) (append_assoc done (e ∷ []) es)
     (spare-phases n m held es (gs ++ P e.1 (first_place e.0 held) ∷ []) (done ++ e ∷ []) l (λ k d g. f (suc k) d (omega arith)) (λ k d g. s (suc k) d (omega arith)) one))
 
 -- a list that was built for the polynomial of A, and X on its flipped wires
@@ -111,25 +111,25 @@ spare-flips n m A gs done fa h c =
 
 -- ---- lists of CNOTs and of phases in turn
 woven-more : (cs : List (List (ℕ × ℕ))) (pss : List (List Phase)) (c : List (ℕ × ℕ)) (ps : List Phase) → length cs ≡ length pss →
-    woven (cs ++ c ∷ []) (pss ++ ps ∷ []) ≡ woven cs pss ++ (cnots c ++ phases ps)
-woven-more [] [] c ps e = ap (λ z. cnots c ++ z) (append-nil (phases ps))
+    woven (cs ++ c ∷ []) (pss ++ ps ∷ []) ≡ woven cs pss ++ (cnot_gates c ++ phases ps)
+woven-more [] [] c ps e = ap (λ z. cnot_gates c ++ z) (append-nil (phases ps))
 woven-more [] (q ∷ pss) c ps e = absurd (omega (arith, e))
 woven-more (d ∷ cs) [] c ps e = absurd (omega (arith, e))
 woven-more (d ∷ cs) (q ∷ pss) c ps e =
-    ap (λ z. cnots d ++ (phases q ++ z)) (woven-more cs pss c ps (omega (arith, e)))
-    ∙ ap (λ z. cnots d ++ z) (sym (append_assoc (phases q) (woven cs pss) (cnots c ++ phases ps)))
-    ∙ sym (append_assoc (cnots d) (phases q ++ woven cs pss) (cnots c ++ phases ps))
+    ap (λ z. cnot_gates d ++ (phases q ++ z)) (woven-more cs pss c ps (omega (arith, e)))
+    ∙ ap (λ z. cnot_gates d ++ z) (sym (append_assoc (phases q) (woven cs pss) (cnot_gates c ++ phases ps)))
+    ∙ sym (append_assoc (cnot_gates d) (phases q ++ woven cs pss) (cnot_gates c ++ phases ps))
 
-pub woven-last : (cs : List (List (ℕ × ℕ))) (pss : List (List Phase)) (c : List (ℕ × ℕ)) → length cs ≡ length pss → woven (cs ++ c ∷ []) pss ≡ woven cs pss ++ cnots c
+pub woven-last : (cs : List (List (ℕ × ℕ))) (pss : List (List Phase)) (c : List (ℕ × ℕ)) → length cs ≡ length pss → woven (cs ++ c ∷ []) pss ≡ woven cs pss ++ cnot_gates c
 woven-last [] [] c e = refl
 woven-last [] (q ∷ pss) c e = absurd (omega (arith, e))
 woven-last (d ∷ cs) [] c e = absurd (omega (arith, e))
 woven-last (d ∷ cs) (q ∷ pss) c e =
-    ap (λ z. cnots d ++ (phases q ++ z)) (woven-last cs pss c (omega (arith, e)))
-    ∙ ap (λ z. cnots d ++ z) (sym (append_assoc (phases q) (woven cs pss) (cnots c)))
-    ∙ sym (append_assoc (cnots d) (phases q ++ woven cs pss) (cnots c))
+    ap (λ z. cnot_gates d ++ (phases q ++ z)) (woven-last cs pss c (omega (arith, e)))
+    ∙ ap (λ z. cnot_gates d ++ z) (sym (append_assoc (phases q) (woven cs pss) (cnot_gates c)))
+    ∙ sym (append_assoc (cnot_gates d) (phases q ++ woven cs pss) (cnot_gates c))
 
-apart-more : (pss : List (List Phase)) (ps : List Phase) → AllApart pss → AreApart ps → AllApart (pss ++ ps ∷ [])
+apart-more : (pss : List (List Phase)) (ps : List Phase) → AllApart pss → HaveOwnWires ps → AllApart (pss ++ ps ∷ [])
 apart-more [] ps f g = (g, tt)
 apart-more (q ∷ pss) ps f g = (f.0, apart-more pss ps f.1 g)
 
@@ -137,7 +137,7 @@ count-more : (pss : List (List Phase)) (ps : List Phase) → phase_count (pss ++
 count-more [] ps = omega arith
 count-more (q ∷ pss) ps = let r = count-more pss ps in omega (arith, r)
 
-placed-length : (held : List ℕ) (es : List Term) → length (placed held es) ≡ length es
+placed-length : (held : List ℕ) (es : List Term) → length (placed_phases held es) ≡ length es
 placed-length held [] = refl
 placed-length held (e ∷ es) = ap (λ k. suc k) (placed-length held es)
 
@@ -156,21 +156,21 @@ woven-none n m gs held e s = subst (λ (z : List Gate). IsWoven n m 0 z held [])
 built-brought : (n m : ℕ) (gs next : List Gate) (held to : List ℕ) (done : List Term) → IsSpareBuilt n m gs held done → IsBrought (n + m) held to gs next → IsSpareBuilt n m next to done
 built-brought n m gs next held to done h b =
     subst (λ (z : List ℕ). IsSpareBuilt n m next z done) b.brings
-    (subst (λ (z : List Gate). IsSpareBuilt n m z (run held b.pairs) done) (sym b.written) (spare-cnots n m gs held done b.pairs (All-pairs (n + m) b.pairs b.fine) h))
+    (subst (λ (z : List Gate). IsSpareBuilt n m z (added_all held b.pairs) done) (sym b.written) (spare-cnots n m gs held done b.pairs (All-pairs (n + m) b.pairs b.fine) h))
 
 pub woven-block : (n m k : ℕ) (gs next : List Gate) (held to : List ℕ) (done es : List Term) → length to ≡ n + m → AreTerms n es → AllDiffer es
     → IsWoven n m k gs held done → IsBlockPut (n + m) held to gs next es → IsWoven n m (k + 1) next to (done ++ es)
 woven-block n m k gs next held to done es l f d w b = record {
   built = subst (λ (z : List Gate). IsSpareBuilt n m z to (done ++ es)) (sym b.written) (spare-phases n m to es b.mid done l f b.stand (built-brought n m gs b.mid held to done w.built b.brought));
   pairs = w.pairs ++ b.brought.pairs ∷ [];
-  phased = w.phased ++ placed to es ∷ [];
+  phased = w.phased ++ placed_phases to es ∷ [];
   lists = let a = length-append w.pairs (b.brought.pairs ∷ []) in let c = w.lists in omega (arith, a, c);
-  between = let a = length-append w.phased (placed to es ∷ []) in let c = w.between in omega (arith, a, c);
-  apart = apart-more w.phased (placed to es) w.apart (placed-apart to es d b.stand);
-  each = let a = count-more w.phased (placed to es) in let c = w.each in let e = placed-length to es in let g = length-append done es in omega (arith, a, c, e, g);
-  written = b.written ∙ ap (λ z. z ++ phases (placed to es)) (b.brought.written ∙ ap (λ z. z ++ cnots b.brought.pairs) w.written)
-      ∙ append_assoc (woven w.pairs w.phased) (cnots b.brought.pairs) (phases (placed to es))
-      ∙ sym (woven-more w.pairs w.phased b.brought.pairs (placed to es) (w.lists ∙ sym w.between));
+  between = let a = length-append w.phased (placed_phases to es ∷ []) in let c = w.between in omega (arith, a, c);
+  apart = apart-more w.phased (placed_phases to es) w.apart (placed-apart to es d b.stand);
+  each = let a = count-more w.phased (placed_phases to es) in let c = w.each in let e = placed-length to es in let g = length-append done es in omega (arith, a, c, e, g);
+  written = b.written ∙ ap (λ z. z ++ phases (placed_phases to es)) (b.brought.written ∙ ap (λ z. z ++ cnot_gates b.brought.pairs) w.written)
+      ∙ append_assoc (woven w.pairs w.phased) (cnot_gates b.brought.pairs) (phases (placed_phases to es))
+      ∙ sym (woven-more w.pairs w.phased b.brought.pairs (placed_phases to es) (w.lists ∙ sym w.between));
 }
 
 pub built-last : (n m k : ℕ) (gs next : List Gate) (held to : List ℕ) (done : List Term) → IsWoven n m k gs held done → IsBrought (n + m) held to gs next → IsSpareBuilt n m next to done

@@ -5,7 +5,7 @@
 --   SameSpared n m t A B  on wires and spares B has the map, the flips and the coefficients of A, and a constant that is t more;
 --                         so the spares end without a row, where A is on the wires alone
 --   Phase, phases ps      a coefficient and a wire; the P on the wires
---   Apart q ps, AreApart ps, AllApart pss   wire q is none of the phases; the wires of the phases differ; in each list
+--   Apart q ps, HaveOwnWires ps, AllApart pss  wire q is none of the phases; the wires of the phases differ; in each list
 --   phase_count pss       the number of phases in all lists
 --   woven cs ps           lists of CNOTs with lists of phases between them
 --   IsAnew n m b A B t    B are b + 1 lists of CNOTs with b lists of phases on different wires between them, and X after these;
@@ -27,7 +27,7 @@ use Rattle.matroid_partition.specs.Partitions.{IsPartition}
 use Rattle.matroid_partition.specs.Spares.{IsSparePartition}
 use Rattle.circuit_layers.specs.Layers.{LayerBody, layers_of, linked}
 use Rattle.phase_poly.specs.Polys.{AreDihedral, PolyBody, coefficient, poly_of, polyed_all}
-use Rattle.phase_poly.specs.Resynthesis.{cnots, flip_gates, rows_of}
+use Rattle.phase_poly.specs.Resynthesis.{cnot_gates, flip_gates, rows_of_terms}
 
 abbrev pub spare_rows : ℕ → List ℕ → List ℕ
 spare_rows m rows = rows ++ replicate m 0
@@ -55,13 +55,13 @@ abbrev pub Apart : ℕ → List Phase → Type 0
 Apart q [] = Unit {0}
 Apart q (p ∷ ps) = (p.1 ≡ q → ⊥) × Apart q ps
 
-abbrev pub AreApart : List Phase → Type 0
-AreApart [] = Unit {0}
-AreApart (p ∷ ps) = Apart p.1 ps × AreApart ps
+abbrev pub HaveOwnWires : List Phase → Type 0
+HaveOwnWires [] = Unit {0}
+HaveOwnWires (p ∷ ps) = Apart p.1 ps × HaveOwnWires ps
 
 abbrev pub AllApart : List (List Phase) → Type 0
 AllApart [] = Unit {0}
-AllApart (ps ∷ pss) = AreApart ps × AllApart pss
+AllApart (ps ∷ pss) = HaveOwnWires ps × AllApart pss
 
 abbrev pub phase_count : List (List Phase) → ℕ
 phase_count [] = 0
@@ -69,8 +69,8 @@ phase_count (ps ∷ pss) = length ps + phase_count pss
 
 abbrev pub woven : List (List (ℕ × ℕ)) → List (List Phase) → List Gate
 woven [] pss = []
-woven (c ∷ cs) [] = cnots c
-woven (c ∷ cs) (ps ∷ pss) = cnots c ++ (phases ps ++ woven cs pss)
+woven (c ∷ cs) [] = cnot_gates c
+woven (c ∷ cs) (ps ∷ pss) = cnot_gates c ++ (phases ps ++ woven cs pss)
 
 pub record IsAnew (n m b : ℕ) (A B : List Gate) (t : ℕ) : Type 0 where
   pub below : t < 8
@@ -81,18 +81,18 @@ pub record IsAnew (n m b : ℕ) (A B : List Gate) (t : ℕ) : Type 0 where
   pub lists : length pairs ≡ suc b
   pub between : length phased ≡ b
   pub apart : AllApart phased
-  pub each : phase_count phased ≡ length (rows_of (poly_of n A).terms)
+  pub each : phase_count phased ≡ length (rows_of_terms (poly_of n A).terms)
   pub written : B ≡ woven pairs phased ++ flip_gates n (poly_of n A).flips
   pub t_gates : t_count (ops B) ≤ t_count (ops A)
 
 pub record Dealt (n m : ℕ) (gs : List Gate) (b : ℕ) : Type 0 where
   pub blocks : List (List ℕ)
-  pub partition : IsSparePartition (rows_of (poly_of n gs).terms) m blocks
+  pub partition : IsSparePartition (rows_of_terms (poly_of n gs).terms) m blocks
   pub count : length blocks ≡ b
-  pub least : (other : List (List ℕ)) → IsSparePartition (rows_of (poly_of n gs).terms) m other → b ≤ length other
+  pub least : (other : List (List ℕ)) → IsSparePartition (rows_of_terms (poly_of n gs).terms) m other → b ≤ length other
 
 abbrev pub Undealt : ℕ → List Gate → ℕ → Type 0
-Undealt n gs b = (other : List (List ℕ)) → IsPartition (rows_of (poly_of n gs).terms) other → b < length other
+Undealt n gs b = (other : List (List ℕ)) → IsPartition (rows_of_terms (poly_of n gs).terms) other → b < length other
 
 abbrev pub IsSparedLayer : ℕ → ℕ → List Gate → List Gate → ℕ → Type 0
 IsSparedLayer n m A B t =

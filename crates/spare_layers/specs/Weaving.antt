@@ -3,7 +3,7 @@
 --   AllDiffer ts              the rows of the terms differ
 --   AreTerms n ts             their rows are on n wires, and their coefficients from 1 to 7
 --   first_place v rows        the first place of the row v among rows, or their number
---   placed rows ts            the phases of the terms, each on the first wire of its row
+--   placed_phases rows ts     the phases of the terms, each on the first wire of its row
 --   IsBrought N from to old new     CNOTs that bring the wires from some rows to others were put behind the gates old
 --   IsBlockPut N from to old new ts     and then the phases of these terms, whose rows stand there
 --   IsSpareBuilt n m gs held done   a list of CNOT and P that brings wires and spares to the rows `held` and has these terms
@@ -14,9 +14,9 @@ use Rattle.unitary_model.specs.Operations.{t_count}
 use Rattle.circuit_list.specs.declared.Gate.{Gate}
 use Rattle.circuit_list.specs.Gates.{ops}
 use Rattle.gf2_linear.specs.Rows.{rank}
-use Rattle.gf2_linear.specs.Matrices.{IsPair, run}
+use Rattle.gf2_linear.specs.Matrices.{IsPair, added_all}
 use Rattle.phase_poly.specs.Polys.{AreDihedral, PolyBody, Term, coefficient, poly_of}
-use Rattle.phase_poly.specs.Resynthesis.{cnots, odd_terms, rows_of}
+use Rattle.phase_poly.specs.Resynthesis.{cnot_gates, odd_terms, rows_of_terms}
 use Rattle.spare_layers.specs.SparedLayers.{AllApart, IsAnew, Phase, phase_count, phases, spared_poly, woven}
 
 pub record IsWide (n m : ℕ) (rows : List ℕ) : Type 0 where
@@ -34,21 +34,21 @@ abbrev pub first_place : ℕ → List ℕ → ℕ
 first_place v [] = 0
 first_place v (r ∷ rows) = cond (nat_eq r v) 0 (suc (first_place v rows))
 
-abbrev pub placed : List ℕ → List Term → List Phase
-placed rows [] = []
-placed rows (e ∷ ts) = (e.1, first_place e.0 rows) ∷ placed rows ts
+abbrev pub placed_phases : List ℕ → List Term → List Phase
+placed_phases rows [] = []
+placed_phases rows (e ∷ ts) = (e.1, first_place e.0 rows) ∷ placed_phases rows ts
 
 pub record IsBrought (N : ℕ) (from to : List ℕ) (old new : List Gate) : Type 0 where
   pub pairs : List (ℕ × ℕ)
   pub fine : All (IsPair N) pairs
-  pub brings : run from pairs ≡ to
-  pub written : new ≡ old ++ cnots pairs
+  pub brings : added_all from pairs ≡ to
+  pub written : new ≡ old ++ cnot_gates pairs
 
 pub record IsBlockPut (N : ℕ) (from to : List ℕ) (old new : List Gate) (ts : List Term) : Type 0 where
   pub mid : List Gate
   pub brought : IsBrought N from to old mid
-  pub stand : All (Contains to) (rows_of ts)
-  pub written : new ≡ mid ++ phases (placed to ts)
+  pub stand : All (Contains to) (rows_of_terms ts)
+  pub written : new ≡ mid ++ phases (placed_phases to ts)
 
 pub record IsSpareBuilt (n m : ℕ) (gs : List Gate) (held : List ℕ) (done : List Term) : Type 0 where
   pub dihedral : AreDihedral (n + m) gs

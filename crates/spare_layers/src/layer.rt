@@ -5,7 +5,7 @@ ghost use Rattle.std.specs.List.Sorted.{IsStrictlyIncreasing};
 ghost use Rattle.circuit_list.specs.Gates.{most_wires};
 ghost use Rattle.matroid_partition.specs.Spares.{IsSparePartition};
 ghost use Rattle.phase_poly.specs.Polys.{AreDihedral};
-ghost use Rattle.phase_poly.specs.Resynthesis.{flip_gates, rows_of};
+ghost use Rattle.phase_poly.specs.Resynthesis.{flip_gates, rows_of_terms};
 ghost use Rattle.spare_layers.specs.SparedLayers.{IsSparedLayer, spare_rows};
 ghost use Rattle.spare_layers.specs.Weaving.{AllDiffer, AnewFor, AreTerms, IsWide};
 
@@ -57,7 +57,7 @@ fn written(
     requires map { IsWide wires spares (spare_rows spares sum.now.map) }
     requires terms { AreTerms wires sum.now.terms }
     requires differ { AllDiffer sum.now.terms }
-    requires partition { IsSparePartition (rows_of sum.now.terms) spares (map (λ b. b.items) blocks.now) }
+    requires partition { IsSparePartition (rows_of_terms sum.now.terms) spares (map (λ b. b.items) blocks.now) }
     requires ascending { All IsStrictlyIncreasing (map (λ b. b.items) blocks.now) }
     ensures below { IfOk result (λ r. r.turn < 8) }
     ensures anew { IfOk result (λ r. AnewFor wires spares (length blocks.now) sum.now r.list.items r.turn) }
@@ -95,7 +95,7 @@ fn unchanged(alloc: Global, gates: &[Gate]) -> Result<Resynth, AllocError>
 
 /// The rows of the terms.
 fn rows(alloc: Global, terms: &[(Row, u8)]) -> Result<Vec<Row>, AllocError>
-    ensures { IfOk result (λ v. v.items ≡ rows_of terms.now) }
+    ensures { IfOk result (λ v. v.items ≡ rows_of_terms terms.now) }
 {
     let mut rows = Vec::new(alloc);
     'terms: for term in terms {

@@ -2,7 +2,7 @@
 
 ghost use Rattle.std.specs.Prelude.{◌≡◌, ◌+◌, ◌≤◌, ◌<◌, ◌++◌, All, IfOk, OnOk};
 ghost use Rattle.circuit_list.specs.Gates.{most_wires, IsFine};
-ghost use Rattle.circuit_layers.specs.Layers.{hadamards};
+ghost use Rattle.circuit_layers.specs.Layers.{hadamards_on};
 ghost use Rattle.phase_poly.specs.Replaced.{DihedralLayers};
 ghost use Rattle.spare_layers.specs.SparedLayers.{IsSparedCircuit, IsSparedList};
 
@@ -56,7 +56,7 @@ fn push_all(list: &mut Vec<Gate>, gates: &[Gate]) -> Result<(), AllocError>
 }
 
 fn push_hadamards(list: &mut Vec<Gate>, wires: &[u32]) -> Result<(), AllocError>
-    ensures ok { OnOk result (list.new.items ≡ list.old.items ++ hadamards wires.now) }
+    ensures ok { OnOk result (list.new.items ≡ list.old.items ++ hadamards_on wires.now) }
 {
     'pushed: for q in wires {
         list.push(Gate::H { q: *q })?;

@@ -7,9 +7,9 @@ ghost use Rattle.circuit_list.specs.Gates.{most_wires};
 ghost use Rattle.gf2_linear.specs.Matrices.{identity_rows};
 ghost use Rattle.gf2_linear.specs.Rows.{rank};
 ghost use Rattle.matroid_partition.specs.Spares.{IsSparePartition};
-ghost use Rattle.phase_poly.specs.Resynthesis.{at_places, cnots, picked, rows_of, term_rows};
+ghost use Rattle.phase_poly.specs.Resynthesis.{at_places, cnot_gates, picked, rows_of_terms, term_rows};
 ghost use Rattle.spare_layers.specs.SparedLayers.{phases, spare_rows};
-ghost use Rattle.spare_layers.specs.Weaving.{AllDiffer, AreTerms, IsBlockPut, IsBrought, IsWide, IsWoven, first_place, placed};
+ghost use Rattle.spare_layers.specs.Weaving.{AllDiffer, AreTerms, IsBlockPut, IsBrought, IsWide, IsWoven, first_place, placed_phases};
 
 use circuit_list::Gate;
 use cnot_synth::synth_wide;
@@ -61,7 +61,7 @@ pub(crate) fn put_blocks(
     requires none { gates.old.items ≡ [] }
     requires terms { AreTerms wires terms.now }
     requires differ { AllDiffer terms.now }
-    requires partition { IsSparePartition (rows_of terms.now) spares (map (λ b. b.items) blocks.now) }
+    requires partition { IsSparePartition (rows_of_terms terms.now) spares (map (λ b. b.items) blocks.now) }
     requires ascending { All IsStrictlyIncreasing (map (λ b. b.items) blocks.now) }
     ensures wide { OnOk result (IsWide wires spares held.new.items) }
     ensures woven { OnOk result (IsWoven wires spares (length blocks.now) gates.new.items held.new.items
@@ -123,7 +123,7 @@ pub(crate) fn bring(
 
 /// Puts CNOTs (control, target) behind the gates.
 fn push_cnots(gates: &mut Vec<Gate>, pairs: &[(u32, u32)]) -> Result<(), AllocError>
-    ensures ok { OnOk result (gates.new.items ≡ gates.old.items ++ cnots pairs.now) }
+    ensures ok { OnOk result (gates.new.items ≡ gates.old.items ++ cnot_gates pairs.now) }
 {
     'pairs: for pair in pairs {
         gates.push(Gate::Cx {
@@ -155,7 +155,7 @@ fn put_terms(
 ) -> Result<(), AllocError>
     requires wires_limit { length held.now ≤ most_wires }
     requires within { All (λ i. i < length terms.now) block.now }
-    ensures { OnOk result (gates.new.items ≡ gates.old.items ++ phases (placed held.now (at_places terms.now block.now))) }
+    ensures { OnOk result (gates.new.items ≡ gates.old.items ++ phases (placed_phases held.now (at_places terms.now block.now))) }
 {
     'places: for place in block {
         put_term(held, gates, &terms[*place])?;

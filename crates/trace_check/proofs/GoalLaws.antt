@@ -21,7 +21,7 @@ use Rattle.trace_check.specs.declared.goals.Held.{Held}
 use Rattle.trace_model.specs.declared.word.Word.TheVariants as word
 use Rattle.trace_model.specs.Lines.{Line, Rewrite, Part, Phases, Goal, Meet, Place, IsSmall}
 use Rattle.trace_check.specs.Progress.{BlockedWith, LeadsOn, reached}
-use Rattle.trace_model.specs.Proves.{Applies, Claim, Rewritten, Seeking, State}
+use Rattle.trace_model.specs.Proves.{Applies, Claim, Rewritten, Seeking, ProofState}
 use Rattle.trace_model.specs.Spelling.{AreSmall}
 use Rattle.trace_check.proofs.GateLaws.{fine-small}
 use Rattle.trace_check.proofs.KindLaws.{stuck-numbers}
@@ -58,7 +58,7 @@ not_goal (Both i j) e = cc
 not_goal (Join i j) e = cc
 not_goal (Sums gs) e = cc
 
-no_goal : (e : Claim) (h : Option Held) (ks : List ℕ) (s : Passed) (lines rest : List (List ℕ)) (new : State) → e.wires ≡ s.body.wires → NoGoal h ks s lines → (l : Line) → IsSmall l → kind_of l ≡ word.Goal → ks ≡ first_numbers l →
+no_goal : (e : Claim) (h : Option Held) (ks : List ℕ) (s : Passed) (lines rest : List (List ℕ)) (new : ProofState) → e.wires ≡ s.body.wires → NoGoal h ks s lines → (l : Line) → IsSmall l → kind_of l ≡ word.Goal → ks ≡ first_numbers l →
     lines ≡ map gate_line (line_gates l) ++ rest → Applies e (reached h s) l rest new → ⊥
 no_goal e None ks s lines rest new q none (Goal gs) hl kind is left a =
     let small = recursion_from_All (λ k. k < 2 ^ 32) (length gs ∷ flat_map gate_numbers gs) hl in
@@ -111,7 +111,7 @@ not_meet (Both i j) e = cc
 not_meet (Join i j) e = cc
 not_meet (Sums gs) e = cc
 
-no_meet : (e : Claim) (o : Option Held) (ks : List ℕ) (s : Passed) (rest : List (List ℕ)) (new : State) → NoMeet o ks s → (l : Line) → kind_of l ≡ word.Meet → ks ≡ first_numbers l → Applies e (reached o s) l rest new → ⊥
+no_meet : (e : Claim) (o : Option Held) (ks : List ℕ) (s : Passed) (rest : List (List ℕ)) (new : ProofState) → NoMeet o ks s → (l : Line) → kind_of l ≡ word.Meet → ks ≡ first_numbers l → Applies e (reached o s) l rest new → ⊥
 no_meet e (Some h) ks s rest new none Meet kind is a = none h refl is a.met
 no_meet e (Some h) ks s rest new none (Rewrite p) kind is a = not_meet p kind
 no_meet e (Some h) ks s rest new none (Part i j gs) kind is a = absurd (cc)

@@ -11,7 +11,7 @@ use Rattle.rewrite_pass.specs.Traces.{Rule, Both, Join, Sums}
 use Rattle.rewrite_pass.specs.TraceLines.{gate_line, words}
 use Rattle.trace_model.specs.declared.word.Word.{Word}
 use Rattle.trace_model.specs.Lines.{Line, Heading, Rewrite, Part, Phases, Goal, Meet, Place, Emit, Back, Elide, Swap, Turn, End, IsIn, IsLineIn, IsSmall, numbers_of, spelt}
-use Rattle.trace_model.specs.Proves.{Applies, Claim, IsStuck, State}
+use Rattle.trace_model.specs.Proves.{Applies, Claim, NoLineApplies, ProofState}
 use Rattle.trace_model.specs.Spelling.{AreSmall, IsWordIn, spelling}
 use Rattle.trace_model.proofs.SpellingLaws.{first-small, first-spelt, first_numbers, kind_of, line_from, line-read, line_gates, line_word, spelling-plain, spelling-read, word_from, words-unique}
 
@@ -50,27 +50,27 @@ first_same w ks behind rest l hk hl e =
     let u = words-unique (spelling w) (line_word l) ks (first_numbers l) (spelling-plain w) (spelling-plain (kind_of l)) hk (first-small l (recursion_from_All (λ k. k < 2 ^ 32) (numbers_of l) hl)) front in
     record { kind = spelling-unique (kind_of l) w (sym u.0); numbers = u.1; read = (λ i. line_from (u.0 i) (u.1 i) (line_gates l)) ∙ line-read l; left = back }
 
-pub stuck-line : (e : Claim) (v : ℕ) (s : State) (w : Word) (ks : List ℕ) (behind : List (List ℕ)) → AreSmall ks →
-    ((l : Line) (rest : List (List ℕ)) (new : State) → kind_of l ≡ w → line_from (spelling w) ks (line_gates l) ≡ Some l → behind ≡ map gate_line (line_gates l) ++ rest → Applies e s l rest new → ⊥) →
-    IsStuck e v s (words (spelling w) ks ∷ behind)
+pub stuck-line : (e : Claim) (v : ℕ) (s : ProofState) (w : Word) (ks : List ℕ) (behind : List (List ℕ)) → AreSmall ks →
+    ((l : Line) (rest : List (List ℕ)) (new : ProofState) → kind_of l ≡ w → line_from (spelling w) ks (line_gates l) ≡ Some l → behind ≡ map gate_line (line_gates l) ++ rest → Applies e s l rest new → ⊥) →
+    NoLineApplies e v s (words (spelling w) ks ∷ behind)
 stuck-line e v s w ks behind small none l rest new is hl a =
     let f = first_same w ks behind rest l small hl.0 is in
     none l rest new f.kind f.read f.left a
 
-pub stuck-numbers : (e : Claim) (v : ℕ) (s : State) (w : Word) (ks : List ℕ) (behind : List (List ℕ)) → AreSmall ks →
-    ((l : Line) (rest : List (List ℕ)) (new : State) → IsLineIn v l → kind_of l ≡ w → ks ≡ first_numbers l → behind ≡ map gate_line (line_gates l) ++ rest → Applies e s l rest new → ⊥) →
-    IsStuck e v s (words (spelling w) ks ∷ behind)
+pub stuck-numbers : (e : Claim) (v : ℕ) (s : ProofState) (w : Word) (ks : List ℕ) (behind : List (List ℕ)) → AreSmall ks →
+    ((l : Line) (rest : List (List ℕ)) (new : ProofState) → IsLineIn v l → kind_of l ≡ w → ks ≡ first_numbers l → behind ≡ map gate_line (line_gates l) ++ rest → Applies e s l rest new → ⊥) →
+    NoLineApplies e v s (words (spelling w) ks ∷ behind)
 stuck-numbers e v s w ks behind small none l rest new is hl a =
     let f = first_same w ks behind rest l small hl.0 is in
     none l rest new hl f.kind f.numbers f.left a
 
-pub stuck-unread : (e : Claim) (v : ℕ) (s : State) (line : List ℕ) (behind : List (List ℕ)) → ((w : Word) (ks : List ℕ) → IsWordIn v w → AreSmall ks → line ≡ words (spelling w) ks → ⊥) → IsStuck e v s (line ∷ behind)
+pub stuck-unread : (e : Claim) (v : ℕ) (s : ProofState) (line : List ℕ) (behind : List (List ℕ)) → ((w : Word) (ks : List ℕ) → IsWordIn v w → AreSmall ks → line ≡ words (spelling w) ks → ⊥) → NoLineApplies e v s (line ∷ behind)
 stuck-unread e v s line behind none l rest new is hl a =
     let whole : line ∷ behind ≡ words (line_word l) (first_numbers l) ∷ (map gate_line (line_gates l) ++ rest) = is ∙ ap (λ x. x ++ rest) (first-spelt l) in
     let front : line ≡ words (line_word l) (first_numbers l) = cc in
     none (kind_of l) (first_numbers l) (word-in v l hl.1) (first-small l (recursion_from_All (λ k. k < 2 ^ 32) (numbers_of l) hl.0)) front
 
-pub stuck-nothing : (e : Claim) (v : ℕ) (s : State) → IsStuck e v s []
+pub stuck-nothing : (e : Claim) (v : ℕ) (s : ProofState) → NoLineApplies e v s []
 stuck-nothing e v s l rest new is hl a =
     let whole : [] ≡ words (line_word l) (first_numbers l) ∷ (map gate_line (line_gates l) ++ rest) = is ∙ ap (λ x. x ++ rest) (first-spelt l) in
     absurd (cc)

@@ -21,7 +21,7 @@ use Rattle.rewrite_pass.specs.Traces.{Step, Rule, Both, Join, Sums, constants_tu
 use Rattle.rewrite_pass.specs.TraceLines.{gate_line, gate_numbers, words}
 use Rattle.trace_model.specs.declared.word.Word.TheVariants as word
 use Rattle.trace_model.specs.Lines.{Line, Rewrite, Part, Phases, IsSmall}
-use Rattle.trace_check.specs.Progress.{Blocked, Leads, reached}
+use Rattle.trace_check.specs.Progress.{Blocked, LeadsWithHeld, reached}
 use Rattle.trace_model.specs.Proves.{slice_of}
 use Rattle.trace_model.specs.Spelling.{AreSmall}
 use Rattle.trace_check.proofs.GateLaws.{fine-small}
@@ -32,7 +32,7 @@ use Rattle.trace_check.proofs.StepLaws.{Changed, IsRewriting, changed-by, leads-
 pub part-leads : (ks : List ℕ) (i j count : ℕ) (gates : List Gate) (s t : Passed) (turn : ℕ) (lines behind : List (List ℕ)) → AreSmall ks → ks ≡ i ∷ j ∷ count ∷ [] → s.body.wires ≤ most_wires →
     All (IsFine s.body.wires) gates → length gates ≡ count → lines ≡ map gate_line gates ++ behind → i ≤ j → j ≤ length s.body.gates → SamePathSum s.body.wires (slice_of s.body.gates i j) gates →
     turn ≡ constants_turn s.body.wires (slice_of s.body.gates i j) gates → t.body.gates ≡ take i s.body.gates ++ (gates ++ drop j s.body.gates) → t.turn ≡ (s.turn + turn) % 8 →
-    Leads word.Part s t (words (codes "part") ks ∷ lines) behind
+    LeadsWithHeld word.Part s t (words (codes "part") ks ∷ lines) behind
 part-leads ks i j count gates s t turn lines behind small is few fine long all ordered within same constants becomes sum =
     leads-by word.Part s t (Part i j gates) turn (words (codes "part") ks ∷ lines) behind refl
     (All-from_recursion (λ k. k < 2 ^ 32) (i ∷ j ∷ length gates ∷ flat_map gate_numbers gates) (low.0, (low.1.0, (low.1.1.0, fine-small s.body.wires few gates (recursion_from_All (IsFine s.body.wires) gates fine)))))

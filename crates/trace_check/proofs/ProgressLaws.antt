@@ -9,14 +9,14 @@ use Rattle.std.proofs.Common.{◌≡◌, ℕ, ◌+◌, List, [], ◌∷◌, ◌+
 use Rattle.std.proofs.lemmas.List.{length-append}
 use Rattle.trace_model.specs.Lines.{IsLineIn, Line, all_spelt, edition_of, spelt}
 use Rattle.trace_text.specs.Texts.{lines_of}
-use Rattle.trace_model.specs.Proves.{Applies, Claim, IsOpen, IsStuck, Proved, Proves, Runs, State, StopsAt, Unread}
+use Rattle.trace_model.specs.Proves.{Applies, Claim, IsOpen, NoLineApplies, Proved, Proves, Runs, ProofState, StopsAt, Unread}
 use Rattle.trace_check.specs.Progress.{Came}
 
 spelt-append : (ls ms : List Line) → all_spelt (ls ++ ms) ≡ all_spelt ls ++ all_spelt ms
 spelt-append [] ms = refl
 spelt-append (l ∷ ls) ms = ap (λ t. spelt l ++ t) (spelt-append ls ms) ∙ sym (append_assoc (spelt l) (all_spelt ls) (all_spelt ms))
 
-runs-append : (e : Claim) (v : ℕ) (s m : State) (ls ms : List Line) (behind : List (List ℕ)) (u : State) → Runs e v s ls (all_spelt ms ++ behind) m → Runs e v m ms behind u → Runs e v s (ls ++ ms) behind u
+runs-append : (e : Claim) (v : ℕ) (s m : ProofState) (ls ms : List Line) (behind : List (List ℕ)) (u : ProofState) → Runs e v s ls (all_spelt ms ++ behind) m → Runs e v m ms behind u → Runs e v s (ls ++ ms) behind u
 runs-append e v s m [] ms behind u a b = subst (λ x. Runs e v x ms behind u) a b
 runs-append e v s m (l ∷ ls) ms behind u a b =
     (a.0, (a.1.0, (subst (λ t. Applies e s l t a.0) shape a.1.1.0, runs-append e v a.0 m ls ms behind u a.1.1.1 b)))
@@ -27,7 +27,7 @@ runs-append e v s m (l ∷ ls) ms behind u a b =
 pub came-start : (e : Claim) (v : ℕ) (trace : List ℕ) → edition_of (lines_of trace) ≡ v → Came e v trace Unread (lines_of trace) 0
 came-start e v trace edition = record { edition = edition; done = []; text = refl; run = refl; count = refl }
 
-pub came-more : (e : Claim) (v : ℕ) (trace : List ℕ) (s u : State) (l : Line) (rest : List (List ℕ)) (n : ℕ) → Came e v trace s (spelt l ++ rest) n → IsLineIn v l → Applies e s l rest u →
+pub came-more : (e : Claim) (v : ℕ) (trace : List ℕ) (s u : ProofState) (l : Line) (rest : List (List ℕ)) (n : ℕ) → Came e v trace s (spelt l ++ rest) n → IsLineIn v l → Applies e s l rest u →
     Came e v trace u rest (n + length (spelt l))
 came-more e v trace s u l rest n c small a = record {
   edition = c.edition;
@@ -37,7 +37,7 @@ came-more e v trace s u l rest n c small a = record {
   count = ap (λ k. k + length (spelt l)) c.count ∙ sym (length-append (all_spelt c.done) (spelt l)) ∙ ap (λ t. length (all_spelt c.done ++ t)) (sym (append-nil (spelt l))) ∙ ap length (sym (spelt-append c.done (l ∷ [])));
 }
 
-pub came-stops : (e : Claim) (v : ℕ) (trace : List ℕ) (s : State) (behind : List (List ℕ)) (n : ℕ) → Came e v trace s behind n → IsOpen s → IsStuck e v s behind → StopsAt e trace (n + 1)
+pub came-stops : (e : Claim) (v : ℕ) (trace : List ℕ) (s : ProofState) (behind : List (List ℕ)) (n : ℕ) → Came e v trace s behind n → IsOpen s → NoLineApplies e v s behind → StopsAt e trace (n + 1)
 came-stops e v trace s behind n c free stuck = record {
   done = c.done;
   state = s;
@@ -45,7 +45,7 @@ came-stops e v trace s behind n c free stuck = record {
   text = c.text;
   run = subst (λ w. Runs e w Unread c.done behind s) (sym c.edition) c.run;
   unproved = free;
-  stuck = subst (λ w. IsStuck e w s behind) (sym c.edition) stuck;
+  stuck = subst (λ w. NoLineApplies e w s behind) (sym c.edition) stuck;
   line_is = ap (λ k. k + 1) c.count;
 }
 

@@ -12,7 +12,7 @@ use Rattle.rewrite_pass.specs.TraceLines.{words}
 use Rattle.trace_model.specs.declared.word.Word.{Word}
 use Rattle.trace_model.specs.declared.word.Word.TheVariants as word
 use Rattle.trace_model.specs.Lines.{Line, Emit, Back, Elide, Swap, Turn, End}
-use Rattle.trace_model.specs.Proves.{Applies, Claim, IsFirst, IsStuck, Placed, Routed, State}
+use Rattle.trace_model.specs.Proves.{Applies, Claim, IsFirst, NoLineApplies, Placed, Routed, ProofState}
 use Rattle.trace_check.specs.Elides.{ByFirst, IsElided}
 use Rattle.trace_model.specs.Spelling.{AreSmall, spelling}
 use Rattle.trace_check.specs.Progress.{Goes, Halts}
@@ -21,7 +21,7 @@ use Rattle.std.specs.declared.result.Result.{Result}
 use Rattle.std.specs.declared.result.Result.TheVariants.{Ok, Err}
 use Rattle.std.proofs.lemmas.List.Elements.{All-from_recursion}
 use Rattle.unitary_model.specs.Placement.{exchanged}
-use Rattle.trace_model.specs.Proves.{on_qubits, swap_cx, turn_cx, turned_cx}
+use Rattle.trace_model.specs.Proves.{on_qubits, swap_cx, swap_reversed_cx, reversed_cx}
 use Rattle.trace_check.proofs.KindLaws.{stuck-line}
 use Rattle.trace_model.proofs.SpellingLaws.{kind_of, with_one, with_two}
 
@@ -39,42 +39,42 @@ not_two f (i ∷ []) l e none = absurd (cc)
 not_two f (i ∷ (j ∷ [])) l e none = none i j refl
 not_two f (i ∷ (j ∷ (k ∷ ks))) l e none = absurd (cc)
 
-pub stuck-emits : (e : Claim) (v : ℕ) (s : State) (ks : List ℕ) (behind : List (List ℕ)) → AreSmall ks → ((i : ℕ) → ks ≡ i ∷ [] → ⊥) → IsStuck e v s (words (codes "emit") ks ∷ behind)
+pub stuck-emits : (e : Claim) (v : ℕ) (s : ProofState) (ks : List ℕ) (behind : List (List ℕ)) → AreSmall ks → ((i : ℕ) → ks ≡ i ∷ [] → ⊥) → NoLineApplies e v s (words (codes "emit") ks ∷ behind)
 stuck-emits e v s ks behind small none = stuck-line e v s word.Emit ks behind small (λ l rest new kind read back a. not_one (λ i. Emit i) ks l read none)
 
-pub stuck-backs : (e : Claim) (v : ℕ) (s : State) (ks : List ℕ) (behind : List (List ℕ)) → AreSmall ks → ((i : ℕ) → ks ≡ i ∷ [] → ⊥) → IsStuck e v s (words (codes "back") ks ∷ behind)
+pub stuck-backs : (e : Claim) (v : ℕ) (s : ProofState) (ks : List ℕ) (behind : List (List ℕ)) → AreSmall ks → ((i : ℕ) → ks ≡ i ∷ [] → ⊥) → NoLineApplies e v s (words (codes "back") ks ∷ behind)
 stuck-backs e v s ks behind small none = stuck-line e v s word.Back ks behind small (λ l rest new kind read back a. not_one (λ i. Back i) ks l read none)
 
-pub stuck-elides : (e : Claim) (v : ℕ) (s : State) (ks : List ℕ) (behind : List (List ℕ)) → AreSmall ks → ((i : ℕ) → ks ≡ i ∷ [] → ⊥) → IsStuck e v s (words (codes "elide") ks ∷ behind)
+pub stuck-elides : (e : Claim) (v : ℕ) (s : ProofState) (ks : List ℕ) (behind : List (List ℕ)) → AreSmall ks → ((i : ℕ) → ks ≡ i ∷ [] → ⊥) → NoLineApplies e v s (words (codes "elide") ks ∷ behind)
 stuck-elides e v s ks behind small none = stuck-line e v s word.Elide ks behind small (λ l rest new kind read back a. not_one (λ i. Elide i) ks l read none)
 
-pub stuck-swaps : (e : Claim) (v : ℕ) (s : State) (ks : List ℕ) (behind : List (List ℕ)) → AreSmall ks → ((i j : ℕ) → ks ≡ i ∷ j ∷ [] → ⊥) → IsStuck e v s (words (codes "swap") ks ∷ behind)
+pub stuck-swaps : (e : Claim) (v : ℕ) (s : ProofState) (ks : List ℕ) (behind : List (List ℕ)) → AreSmall ks → ((i j : ℕ) → ks ≡ i ∷ j ∷ [] → ⊥) → NoLineApplies e v s (words (codes "swap") ks ∷ behind)
 stuck-swaps e v s ks behind small none = stuck-line e v s word.Swap ks behind small (λ l rest new kind read back a. not_two (λ u v. Swap u v) ks l read none)
 
-pub stuck-turns : (e : Claim) (v : ℕ) (s : State) (ks : List ℕ) (behind : List (List ℕ)) → AreSmall ks → ((i j : ℕ) → ks ≡ i ∷ j ∷ [] → ⊥) → IsStuck e v s (words (codes "turn") ks ∷ behind)
+pub stuck-turns : (e : Claim) (v : ℕ) (s : ProofState) (ks : List ℕ) (behind : List (List ℕ)) → AreSmall ks → ((i j : ℕ) → ks ≡ i ∷ j ∷ [] → ⊥) → NoLineApplies e v s (words (codes "turn") ks ∷ behind)
 stuck-turns e v s ks behind small none = stuck-line e v s word.Turn ks behind small (λ l rest new kind read back a. not_two (λ u v. Turn u v) ks l read none)
 
 small1 : (ks : List ℕ) (i : ℕ) → ks ≡ i ∷ [] → AreSmall ks → AreSmall (i ∷ [])
 small1 ks i e h = subst AreSmall e h
 
-pub stuck-emit : (e : Claim) (v : ℕ) (s : Placed) (i : ℕ) (behind : List (List ℕ)) → AreSmall (i ∷ []) → ((g : Gate) → IsFirst s.rest i g → ⊥) → IsStuck e v (Routed s) (words (codes "emit") (i ∷ []) ∷ behind)
+pub stuck-emit : (e : Claim) (v : ℕ) (s : Placed) (i : ℕ) (behind : List (List ℕ)) → AreSmall (i ∷ []) → ((g : Gate) → IsFirst s.rest i g → ⊥) → NoLineApplies e v (Routed s) (words (codes "emit") (i ∷ []) ∷ behind)
 stuck-emit e v s i behind small none = stuck-line e v (Routed s) word.Emit (i ∷ []) behind small
     (λ l rest new kind read back a. let b : Applies e (Routed s) (Emit i) rest new = subst (λ m. Applies e (Routed s) m rest new) (sym (same_Some (Emit i) l read)) a in none b.gate b.first)
 
-pub stuck-back : (e : Claim) (v : ℕ) (s : Placed) (i : ℕ) (behind : List (List ℕ)) → AreSmall (i ∷ []) → ((c t : ℕ) → IsFirst s.rest i (Cx c t) → ⊥) → IsStuck e v (Routed s) (words (codes "back") (i ∷ []) ∷ behind)
+pub stuck-back : (e : Claim) (v : ℕ) (s : Placed) (i : ℕ) (behind : List (List ℕ)) → AreSmall (i ∷ []) → ((c t : ℕ) → IsFirst s.rest i (Cx c t) → ⊥) → NoLineApplies e v (Routed s) (words (codes "back") (i ∷ []) ∷ behind)
 stuck-back e v s i behind small none = stuck-line e v (Routed s) word.Back (i ∷ []) behind small
     (λ l rest new kind read back a. let b : Applies e (Routed s) (Back i) rest new = subst (λ m. Applies e (Routed s) m rest new) (sym (same_Some (Back i) l read)) a in none b.c b.t b.first)
 
-pub stuck-elide : (e : Claim) (v : ℕ) (s : Placed) (i : ℕ) (behind : List (List ℕ)) → AreSmall (i ∷ []) → ((a b j k : ℕ) → ByFirst s.rest i a b j k → ⊥) → IsStuck e v (Routed s) (words (codes "elide") (i ∷ []) ∷ behind)
+pub stuck-elide : (e : Claim) (v : ℕ) (s : Placed) (i : ℕ) (behind : List (List ℕ)) → AreSmall (i ∷ []) → ((a b j k : ℕ) → ByFirst s.rest i a b j k → ⊥) → NoLineApplies e v (Routed s) (words (codes "elide") (i ∷ []) ∷ behind)
 stuck-elide e v s i behind small none = stuck-line e v (Routed s) word.Elide (i ∷ []) behind small
     (λ l rest new kind read back h. let b : Applies e (Routed s) (Elide i) rest new = subst (λ m. Applies e (Routed s) m rest new) (sym (same_Some (Elide i) l read)) h in
     none b.a b.b b.j b.k (record { first = b.first; second = b.second; third = b.third }))
 
-pub stuck-swap : (e : Claim) (n : ℕ) (s : Placed) (u v : ℕ) (behind : List (List ℕ)) → AreSmall (u ∷ v ∷ []) → (u < e.qubits → v < e.qubits → u ≢ v → ⊥) → IsStuck e n (Routed s) (words (codes "swap") (u ∷ v ∷ []) ∷ behind)
+pub stuck-swap : (e : Claim) (n : ℕ) (s : Placed) (u v : ℕ) (behind : List (List ℕ)) → AreSmall (u ∷ v ∷ []) → (u < e.qubits → v < e.qubits → u ≢ v → ⊥) → NoLineApplies e n (Routed s) (words (codes "swap") (u ∷ v ∷ []) ∷ behind)
 stuck-swap e n s u v behind small none = stuck-line e n (Routed s) word.Swap (u ∷ v ∷ []) behind small
     (λ l rest new kind read back a. let b : Applies e (Routed s) (Swap u v) rest new = subst (λ m. Applies e (Routed s) m rest new) (sym (same_Some (Swap u v) l read)) a in none b.first b.second b.differ)
 
-pub stuck-turn : (e : Claim) (n : ℕ) (s : Placed) (u v : ℕ) (behind : List (List ℕ)) → AreSmall (u ∷ v ∷ []) → (u < e.qubits → v < e.qubits → u ≢ v → ⊥) → IsStuck e n (Routed s) (words (codes "turn") (u ∷ v ∷ []) ∷ behind)
+pub stuck-turn : (e : Claim) (n : ℕ) (s : Placed) (u v : ℕ) (behind : List (List ℕ)) → AreSmall (u ∷ v ∷ []) → (u < e.qubits → v < e.qubits → u ≢ v → ⊥) → NoLineApplies e n (Routed s) (words (codes "turn") (u ∷ v ∷ []) ∷ behind)
 stuck-turn e n s u v behind small none = stuck-line e n (Routed s) word.Turn (u ∷ v ∷ []) behind small
     (λ l rest new kind read back a. let b : Applies e (Routed s) (Turn u v) rest new = subst (λ m. Applies e (Routed s) m rest new) (sym (same_Some (Turn u v) l read)) a in none b.first b.second b.differ)
 
@@ -87,7 +87,7 @@ pub record IsOther (w : Word) : Type 0 where
   pub turn : w ≢ word.Turn
   pub end : w ≢ word.End
 
-other : (e : Claim) (s : Placed) (w : Word) (rest : List (List ℕ)) (new : State) → IsOther w → (l : Line) → kind_of l ≡ w → Applies e (Routed s) l rest new → ⊥
+other : (e : Claim) (s : Placed) (w : Word) (rest : List (List ℕ)) (new : ProofState) → IsOther w → (l : Line) → kind_of l ≡ w → Applies e (Routed s) l rest new → ⊥
 other e s w rest new h (Emit i) k a = h.emit (sym k)
 other e s w rest new h (Back i) k a = h.back (sym k)
 other e s w rest new h (Swap u v) k a = h.swap (sym k)
@@ -96,7 +96,7 @@ other e s w rest new h (End j) k a = h.end (sym k)
 other e s w rest new h (Elide i) k a = h.elide (sym k)
 other e s w rest new h _ k a = a
 
-pub stuck-other : (e : Claim) (v : ℕ) (s : Placed) (w : Word) (ks : List ℕ) (behind : List (List ℕ)) → AreSmall ks → IsOther w → IsStuck e v (Routed s) (words (spelling w) ks ∷ behind)
+pub stuck-other : (e : Claim) (v : ℕ) (s : Placed) (w : Word) (ks : List ℕ) (behind : List (List ℕ)) → AreSmall ks → IsOther w → NoLineApplies e v (Routed s) (words (spelling w) ks ∷ behind)
 stuck-other e v s w ks behind small h = stuck-line e v (Routed s) w ks behind small (λ l rest new kind read back a. other e s w rest new h l kind a)
 
 -- ---- for the code
@@ -117,15 +117,15 @@ emits-goes s t ks i f h e first a b c d g =
     λ k v behind w q. (Emit i, ((small-line ks (i ∷ []) h e, tt), ((λ z. words (codes "emit") (sym e z) ∷ []), record { gate = f; first = first; after = made t _ a b c d g })))
 
 pub emits-halts : (s : Placed) (ks : List ℕ) (i : ℕ) → AreSmall ks → ks ≡ i ∷ [] → ((g : Gate) → IsFirst s.rest i g → ⊥) → Halts word.Emit ks s
-emits-halts s ks i h e none = λ k v behind q. subst (λ l. IsStuck k v (Routed s) (words (codes "emit") l ∷ behind)) (sym e) (stuck-emit k v s i behind (subst AreSmall e h) none)
+emits-halts s ks i h e none = λ k v behind q. subst (λ l. NoLineApplies k v (Routed s) (words (codes "emit") l ∷ behind)) (sym e) (stuck-emit k v s i behind (subst AreSmall e h) none)
 
 pub backs-goes : (s t : Placed) (ks : List ℕ) (i x y : ℕ) → AreSmall ks → ks ≡ i ∷ [] → IsFirst s.rest i (Cx x y) → t.first ≡ s.first → t.now ≡ s.now → t.rest ≡ remove s.rest i →
-    t.written ≡ s.written ++ turned_cx (slice_index s.now x) (slice_index s.now y) → t.turn ≡ (s.turn + 4) % 8 → Goes word.Back ks s t
+    t.written ≡ s.written ++ reversed_cx (slice_index s.now x) (slice_index s.now y) → t.turn ≡ (s.turn + 4) % 8 → Goes word.Back ks s t
 backs-goes s t ks i x y h e first a b c d g =
     λ k v behind w q. (Back i, ((small-line ks (i ∷ []) h e, tt), ((λ z. words (codes "back") (sym e z) ∷ []), record { c = x; t = y; first = first; after = made t _ a b c d g })))
 
 pub backs-halts : (s : Placed) (ks : List ℕ) (i : ℕ) → AreSmall ks → ks ≡ i ∷ [] → ((c t : ℕ) → IsFirst s.rest i (Cx c t) → ⊥) → Halts word.Back ks s
-backs-halts s ks i h e none = λ k v behind q. subst (λ l. IsStuck k v (Routed s) (words (codes "back") l ∷ behind)) (sym e) (stuck-back k v s i behind (subst AreSmall e h) none)
+backs-halts s ks i h e none = λ k v behind q. subst (λ l. NoLineApplies k v (Routed s) (words (codes "back") l ∷ behind)) (sym e) (stuck-back k v s i behind (subst AreSmall e h) none)
 
 pub elides-goes : (s t : Placed) (ks : List ℕ) (i : ℕ) → AreSmall ks → ks ≡ i ∷ [] → IsElided i s.now s.rest t.now t.rest → t.first ≡ s.first → t.written ≡ s.written → t.turn ≡ s.turn → Goes word.Elide ks s t
 elides-goes s t ks i h e by a d g =
@@ -141,7 +141,7 @@ elides-goes s t ks i h e by a d g =
     )
 
 pub elides-halts : (s : Placed) (ks : List ℕ) (i : ℕ) → AreSmall ks → ks ≡ i ∷ [] → ((a b j k : ℕ) → ByFirst s.rest i a b j k → ⊥) → Halts word.Elide ks s
-elides-halts s ks i h e none = λ k v behind q. subst (λ l. IsStuck k v (Routed s) (words (codes "elide") l ∷ behind)) (sym e) (stuck-elide k v s i behind (subst AreSmall e h) none)
+elides-halts s ks i h e none = λ k v behind q. subst (λ l. NoLineApplies k v (Routed s) (words (codes "elide") l ∷ behind)) (sym e) (stuck-elide k v s i behind (subst AreSmall e h) none)
 
 same_turn : (s : ℕ) → s < 8 → s ≡ (s + 0) % 8
 same_turn s lt = omega arith
@@ -161,11 +161,11 @@ swaps-goes s t ks u v low h e lu lv ne a b c d g =
     )
 
 pub swaps-halts : (s : Placed) (ks : List ℕ) (u v : ℕ) → AreSmall ks → ks ≡ u ∷ v ∷ [] → (u < length s.now → v < length s.now → u ≢ v → ⊥) → Halts word.Swap ks s
-swaps-halts s ks u v h e none = λ k n behind q. subst (λ l. IsStuck k n (Routed s) (words (codes "swap") l ∷ behind)) (sym e)
+swaps-halts s ks u v h e none = λ k n behind q. subst (λ l. NoLineApplies k n (Routed s) (words (codes "swap") l ∷ behind)) (sym e)
     (stuck-swap k n s u v behind (subst AreSmall e h) (λ lu lv. none (subst (λ m. u < m) q lu) (subst (λ m. v < m) q lv)))
 
 pub turns-goes : (s t : Placed) (ks : List ℕ) (u v : ℕ) → AreSmall ks → ks ≡ u ∷ v ∷ [] → u < length s.now → v < length s.now → u ≢ v → t.first ≡ s.first → t.now ≡ map (exchanged u v) s.now → t.rest ≡ s.rest →
-    t.written ≡ s.written ++ turn_cx u v → t.turn ≡ (s.turn + 4) % 8 → Goes word.Turn ks s t
+    t.written ≡ s.written ++ swap_reversed_cx u v → t.turn ≡ (s.turn + 4) % 8 → Goes word.Turn ks s t
 turns-goes s t ks u v h e lu lv ne a b c d g =
     λ k n behind w q. (
       Turn u v,
@@ -179,5 +179,5 @@ turns-goes s t ks u v h e lu lv ne a b c d g =
     )
 
 pub turns-halts : (s : Placed) (ks : List ℕ) (u v : ℕ) → AreSmall ks → ks ≡ u ∷ v ∷ [] → (u < length s.now → v < length s.now → u ≢ v → ⊥) → Halts word.Turn ks s
-turns-halts s ks u v h e none = λ k n behind q. subst (λ l. IsStuck k n (Routed s) (words (codes "turn") l ∷ behind)) (sym e)
+turns-halts s ks u v h e none = λ k n behind q. subst (λ l. NoLineApplies k n (Routed s) (words (codes "turn") l ∷ behind)) (sym e)
     (stuck-turn k n s u v behind (subst AreSmall e h) (λ lu lv. none (subst (λ m. u < m) q lu) (subst (λ m. v < m) q lv)))

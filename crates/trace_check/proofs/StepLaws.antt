@@ -32,8 +32,8 @@ use Rattle.trace_model.specs.declared.word.Word.{Word}
 use Rattle.trace_model.specs.declared.word.Word.TheVariants as word
 use Rattle.trace_model.specs.Lines.{Line, Heading, Rewrite, Part, Phases, Goal, Meet, Place, IsIn, IsSmall, edition_of, numbers_of, spelt}
 use Rattle.trace_text.specs.Texts.{lines_of}
-use Rattle.trace_check.specs.Progress.{Blocked, Came, Leads, BlockedWith, IsListing, IsSame, LeadsOn, reached, step_named}
-use Rattle.trace_model.specs.Proves.{Applies, Changes, Claim, IsOpen, IsStuck, Placed, Rewritten, Routed, Seeking, State, StopsAt, Unread}
+use Rattle.trace_check.specs.Progress.{Blocked, Came, LeadsWithHeld, BlockedWith, IsListing, IsSame, LeadsOn, reached, step_named}
+use Rattle.trace_model.specs.Proves.{Applies, Changes, Claim, IsOpen, NoLineApplies, Placed, Rewritten, Routed, Seeking, ProofState, StopsAt, Unread}
 use Rattle.unitary_model.specs.Placement.{IsPlacement}
 use Rattle.trace_model.specs.Spelling.{AreSmall, IsWordIn, spelling}
 use Rattle.trace_model.proofs.EditionLaws.{edition-either}
@@ -54,7 +54,7 @@ pub record Changed (n : ℕ) (old : List Gate) (l : Line) : Type 0 where
   pub turn : ℕ
   pub step : Changes n old l gates turn
 
-pub changed-by : (e : Claim) (h : Option Held) (s : Passed) (l : Line) (rest : List (List ℕ)) (new : State) → IsRewriting (kind_of l) → Applies e (reached h s) l rest new → Changed e.wires s.body.gates l
+pub changed-by : (e : Claim) (h : Option Held) (s : Passed) (l : Line) (rest : List (List ℕ)) (new : ProofState) → IsRewriting (kind_of l) → Applies e (reached h s) l rest new → Changed e.wires s.body.gates l
 changed-by e None s (Rewrite p) rest new w a = record { gates = a.gates; turn = a.turn; step = a.step }
 changed-by e None s (Part i j gs) rest new w a = record { gates = a.gates; turn = a.turn; step = a.step }
 changed-by e None s (Phases gs) rest new w a = record { gates = a.gates; turn = a.turn; step = a.step }
@@ -99,7 +99,7 @@ line_in n v old new turn (Phases gs) c i = i
 line_in n v old new turn _ c i = absurd c
 
 pub leads-by : (w : Word) (s t : Passed) (l : Line) (turn : ℕ) (lines behind : List (List ℕ)) → kind_of l ≡ w → IsSmall l → lines ≡ spelt l ++ behind → Changes s.body.wires s.body.gates l t.body.gates turn →
-    t.turn ≡ (s.turn + turn) % 8 → Leads w s t lines behind
+    t.turn ≡ (s.turn + turn) % 8 → LeadsWithHeld w s t lines behind
 leads-by w s t l turn lines behind kind small is c sum = λ h e v i q.
     let d : Changes e.wires s.body.gates l t.body.gates turn = subst (λ n. Changes n s.body.gates l t.body.gates turn) (sym q) c in
     (l, ((small, line_in s.body.wires v s.body.gates t.body.gates turn l c (subst (IsWordIn v) (sym kind) i)), (is, changes-applies e h s t l turn behind d sum)))
@@ -124,7 +124,7 @@ step-numbers word.Join i j p e = ap (λ q. numbers_of (Rewrite q)) (same_Some (J
 step-numbers _ i j p e = absurd (cc)
 
 pub step-leads : (w : Word) (ks : List ℕ) (i j : ℕ) (s t : Passed) (p : Step) (turn : ℕ) (behind : List (List ℕ)) → AreSmall ks → ks ≡ i ∷ j ∷ [] → step_named w i j ≡ Some p →
-    IsStep s.body.wires s.body.gates p t.body.gates turn → t.turn ≡ (s.turn + turn) % 8 → Leads w s t (words (spelling w) ks ∷ behind) behind
+    IsStep s.body.wires s.body.gates p t.body.gates turn → t.turn ≡ (s.turn + turn) % 8 → LeadsWithHeld w s t (words (spelling w) ks ∷ behind) behind
 step-leads w ks i j s t p turn behind small is f step sum =
     leads-by w s t (Rewrite p) turn (words (spelling w) ks ∷ behind) behind (step-kind w i j p f) (small-line ks (numbers_of (Rewrite p)) small (is ∙ step-numbers w i j p f))
     (ap (λ k. words (spelling w) k ∷ behind) is ∙ ap (λ x. x ++ behind) (sym (step-spelt w i j p f))) step sum
@@ -171,7 +171,7 @@ listed_small n count ks gs small is few fine long =
 
 pub listed-leads : (w : Word) (ks : List ℕ) (count : ℕ) (s t : Passed) (turn : ℕ) (lines behind : List (List ℕ)) → AreSmall ks → ks ≡ count ∷ [] → s.body.wires ≤ most_wires → All (IsFine s.body.wires) t.body.gates →
     length t.body.gates ≡ count → lines ≡ map gate_line t.body.gates ++ behind → IsSame w s.body.wires s.body.gates t.body.gates → turn ≡ constants_turn s.body.wires s.body.gates t.body.gates →
-    t.turn ≡ (s.turn + turn) % 8 → Leads w s t (words (spelling w) ks ∷ lines) behind
+    t.turn ≡ (s.turn + turn) % 8 → LeadsWithHeld w s t (words (spelling w) ks ∷ lines) behind
 listed-leads word.Sums ks count s t turn lines behind small is few fine long all same constants sum =
     leads-by word.Sums s t (Rewrite (Sums t.body.gates)) turn (words (codes "sums") ks ∷ lines) behind refl (listed_small s.body.wires count ks t.body.gates small is few fine long)
     (λ z. words (codes "sums") ((is ∙ ap (λ k. k ∷ []) (sym long)) z) ∷ all z) (record { fine = fine; same = same; becomes = refl; turn = constants }) sum
@@ -240,12 +240,12 @@ came-heading e v trace s rest named a b lines =
     low (inl e) = omega (arith, e, named)
     low (inr e) = omega (arith, e, named)
 
-no_heading : (e : Claim) (v : ℕ) (w : Word) (ks : List ℕ) (rest : List (List ℕ)) (new : State) → (w ≡ word.Trace → ks ≡ v ∷ [] → ⊥) → (l : Line) → IsIn v l → kind_of l ≡ w → ks ≡ first_numbers l →
+no_heading : (e : Claim) (v : ℕ) (w : Word) (ks : List ℕ) (rest : List (List ℕ)) (new : ProofState) → (w ≡ word.Trace → ks ≡ v ∷ [] → ⊥) → (l : Line) → IsIn v l → kind_of l ≡ w → ks ≡ first_numbers l →
     Applies e Unread l rest new → ⊥
 no_heading e v w ks rest new none (Heading n) i kind is a = none (sym kind) (is ∙ ap (λ k. k ∷ []) i)
 no_heading e v w ks rest new none _ i kind is a = a
 
-pub stuck-heading : (e : Claim) (v : ℕ) (w : Word) (ks : List ℕ) (behind : List (List ℕ)) → AreSmall ks → (w ≡ word.Trace → ks ≡ v ∷ [] → ⊥) → IsStuck e v Unread (words (spelling w) ks ∷ behind)
+pub stuck-heading : (e : Claim) (v : ℕ) (w : Word) (ks : List ℕ) (behind : List (List ℕ)) → AreSmall ks → (w ≡ word.Trace → ks ≡ v ∷ [] → ⊥) → NoLineApplies e v Unread (words (spelling w) ks ∷ behind)
 stuck-heading e v w ks behind small none = stuck-numbers e v Unread w ks behind small (λ l rest new hl kind is left a. no_heading e v w ks rest new none l hl.1 kind is a)
 
 -- ---- the line `place`
@@ -255,7 +255,7 @@ not_place (Both i j) e = cc
 not_place (Join i j) e = cc
 not_place (Sums gs) e = cc
 
-no_place : (e : Claim) (ks : List ℕ) (s : Passed) (rest : List (List ℕ)) (new : State) → (e.wires ≤ e.qubits → IsPlacement e.qubits ks → ⊥) → (l : Line) → kind_of l ≡ word.Place → ks ≡ first_numbers l →
+no_place : (e : Claim) (ks : List ℕ) (s : Passed) (rest : List (List ℕ)) (new : ProofState) → (e.wires ≤ e.qubits → IsPlacement e.qubits ks → ⊥) → (l : Line) → kind_of l ≡ word.Place → ks ≡ first_numbers l →
     Applies e (reached None s) l rest new → ⊥
 no_place e ks s rest new none (Place p) kind is a = none a.fits (subst (IsPlacement e.qubits) (sym is) a.placement)
 no_place e ks s rest new none (Rewrite p) kind is a = not_place p kind
@@ -264,10 +264,10 @@ no_place e ks s rest new none (Phases gs) kind is a = absurd (cc)
 no_place e ks s rest new none (Goal gs) kind is a = absurd (cc)
 no_place e ks s rest new none _ kind is a = a
 
-pub stuck-place : (e : Claim) (v : ℕ) (s : Passed) (ks : List ℕ) (behind : List (List ℕ)) → AreSmall ks → (e.wires ≤ e.qubits → IsPlacement e.qubits ks → ⊥) → IsStuck e v (reached None s) (words (codes "place") ks ∷ behind)
+pub stuck-place : (e : Claim) (v : ℕ) (s : Passed) (ks : List ℕ) (behind : List (List ℕ)) → AreSmall ks → (e.wires ≤ e.qubits → IsPlacement e.qubits ks → ⊥) → NoLineApplies e v (reached None s) (words (codes "place") ks ∷ behind)
 stuck-place e v s ks behind small none = stuck-numbers e v (reached None s) word.Place ks behind small (λ l rest new hl kind is left a. no_place e ks s rest new none l kind is a)
 
-none_held : (e : Claim) (h : Held) (s : Passed) (rest : List (List ℕ)) (new : State) (l : Line) → kind_of l ≡ word.Place → Applies e (reached (Some h) s) l rest new → ⊥
+none_held : (e : Claim) (h : Held) (s : Passed) (rest : List (List ℕ)) (new : ProofState) (l : Line) → kind_of l ≡ word.Place → Applies e (reached (Some h) s) l rest new → ⊥
 none_held e h s rest new (Rewrite p) kind a = not_place p kind
 none_held e h s rest new (Part i j gs) kind a = absurd (cc)
 none_held e h s rest new (Phases gs) kind a = absurd (cc)
@@ -296,6 +296,6 @@ is_open : (h : Option Held) (s : Passed) → IsOpen (reached h s)
 is_open None s = tt
 is_open (Some h) s = tt
 
-pub came-blocked : (e : Claim) (v : ℕ) (trace : List ℕ) (h : Option Held) (s : Passed) (lines : List (List ℕ)) (n line : ℕ) → IsStuck e v (reached h s) lines → Came e v trace (reached h s) lines n → line ≡ n + 1 →
+pub came-blocked : (e : Claim) (v : ℕ) (trace : List ℕ) (h : Option Held) (s : Passed) (lines : List (List ℕ)) (n line : ℕ) → NoLineApplies e v (reached h s) lines → Came e v trace (reached h s) lines n → line ≡ n + 1 →
     StopsAt e trace line
 came-blocked e v trace h s lines n line stuck c at = subst (StopsAt e trace) (sym at) (came-stops e v trace (reached h s) lines n c (is_open h s) stuck)

@@ -19,7 +19,7 @@ use Rattle.trace_model.specs.declared.word.Word.TheVariants as word
 use Rattle.trace_model.specs.Lines.{Line, End, spelt}
 use Rattle.trace_text.specs.Texts.{begun, lines_of}
 use Rattle.trace_check.specs.Progress.{Came, Ends, Goes}
-use Rattle.trace_model.specs.Proves.{Applies, Claim, IsEnd, IsStuck, Placed, Proved, Proves, Routed, State, StopsAt}
+use Rattle.trace_model.specs.Proves.{Applies, Claim, IsEnd, NoLineApplies, Placed, Proved, Proves, Routed, ProofState, StopsAt}
 use Rattle.trace_model.specs.Spelling.{AreSmall, IsWordIn, spelling}
 use Rattle.trace_check.proofs.KindLaws.{stuck-line}
 use Rattle.trace_check.proofs.ProgressLaws.{came-more, came-proves, came-stops}
@@ -38,7 +38,7 @@ no_lines [] e = refl
 no_lines (b ∷ t) e = absurd (some_line (nat_eq b 10) b (lines_of t) e)
 
 -- ---- the line `end`
-at_end : (e : Claim) (s : Placed) (ks : List ℕ) (behind : List (List ℕ)) (l : Line) (rest : List (List ℕ)) (new : State) → ((j : ℕ) (new : State) → ks ≡ j ∷ [] → IsEnd e s j behind new → ⊥) →
+at_end : (e : Claim) (s : Placed) (ks : List ℕ) (behind : List (List ℕ)) (l : Line) (rest : List (List ℕ)) (new : ProofState) → ((j : ℕ) (new : ProofState) → ks ≡ j ∷ [] → IsEnd e s j behind new → ⊥) →
     with_one (λ j. End j) ks ≡ Some l → behind ≡ map gate_line (line_gates l) ++ rest → Applies e (Routed s) l rest new → ⊥
 at_end e s [] behind l rest new none read back a = absurd (cc)
 at_end e s (j ∷ []) behind l rest new none read back a =
@@ -47,16 +47,16 @@ at_end e s (j ∷ []) behind l rest new none read back a =
     none j new refl (subst (λ r. IsEnd e s j r new) (sym b) (subst (λ m. Applies e (Routed s) m rest new) same a))
 at_end e s (j ∷ (k ∷ ks)) behind l rest new none read back a = absurd (cc)
 
-pub stuck-end : (e : Claim) (v : ℕ) (s : Placed) (ks : List ℕ) (behind : List (List ℕ)) → AreSmall ks → ((j : ℕ) (new : State) → ks ≡ j ∷ [] → IsEnd e s j behind new → ⊥) →
-    IsStuck e v (Routed s) (words (codes "end") ks ∷ behind)
+pub stuck-end : (e : Claim) (v : ℕ) (s : Placed) (ks : List ℕ) (behind : List (List ℕ)) → AreSmall ks → ((j : ℕ) (new : ProofState) → ks ≡ j ∷ [] → IsEnd e s j behind new → ⊥) →
+    NoLineApplies e v (Routed s) (words (codes "end") ks ∷ behind)
 stuck-end e v s ks behind small none =
     stuck-line e v (Routed s) word.End ks behind small (λ l rest new kind read back a. at_end e s ks behind l rest new none read back a)
 
-pub stuck-before : (e : Claim) (v : ℕ) (s : Placed) (ks text : List ℕ) → AreSmall ks → 0 < length text → IsStuck e v (Routed s) (words (codes "end") ks ∷ lines_of text)
+pub stuck-before : (e : Claim) (v : ℕ) (s : Placed) (ks text : List ℕ) → AreSmall ks → 0 < length text → NoLineApplies e v (Routed s) (words (codes "end") ks ∷ lines_of text)
 stuck-before e v s ks text small lt = stuck-end e v s ks (lines_of text) small (λ j new is a. let none = no_lines text a.last in absurd (omega (arith, none, lt)))
 
 pub stuck-unequal : (e : Claim) (v : ℕ) (s : Placed) (goal : Passed) (ks : List ℕ) (behind : List (List ℕ)) → Ends e goal → AreSmall ks →
-    (ks ≡ (s.turn + (8 - goal.turn)) % 8 ∷ [] → s.rest ≡ [] → s.written ≡ goal.body.gates → ⊥) → IsStuck e v (Routed s) (words (codes "end") ks ∷ behind)
+    (ks ≡ (s.turn + (8 - goal.turn)) % 8 ∷ [] → s.rest ≡ [] → s.written ≡ goal.body.gates → ⊥) → NoLineApplies e v (Routed s) (words (codes "end") ks ∷ behind)
 stuck-unequal e v s goal ks behind g small none =
     stuck-end e v s ks behind small (λ j new is a. none (is ∙ ap (λ k. k ∷ []) (a.turn ∙ ap (λ t. (s.turn + (8 - t)) % 8) g.turn)) a.empty (a.written ∙ g.gates))
 
@@ -68,7 +68,7 @@ routed-more e v trace s t w ks behind lines m i q goes is c =
     let first : Came e v trace (Routed s) (spelt h.0 ++ behind) m = subst (λ x. Came e v trace (Routed s) x m) (is ∙ ap (λ x. x ++ behind) (sym h.1.1.0)) c in
     subst (λ k. Came e v trace (Routed t) behind (m + k)) (ap length h.1.1.0) (came-more e v trace (Routed s) (Routed t) h.0 behind m first h.1.0 h.1.1.1)
 
-pub routed-stops : (e : Claim) (v : ℕ) (trace : List ℕ) (s : Placed) (lines : List (List ℕ)) (m line : ℕ) → Came e v trace (Routed s) lines m → line ≡ m + 1 → IsStuck e v (Routed s) lines → StopsAt e trace line
+pub routed-stops : (e : Claim) (v : ℕ) (trace : List ℕ) (s : Placed) (lines : List (List ℕ)) (m line : ℕ) → Came e v trace (Routed s) lines m → line ≡ m + 1 → NoLineApplies e v (Routed s) lines → StopsAt e trace line
 routed-stops e v trace s lines m line c is stuck = subst (StopsAt e trace) (sym is) (came-stops e v trace (Routed s) lines m c tt stuck)
 
 pub routed-proves : (e : Claim) (v : ℕ) (trace : List ℕ) (s : Placed) (goal : Passed) (ks : List ℕ) (lines : List (List ℕ)) (m : ℕ) → Ends e goal → lines ≡ words (codes "end") ks ∷ [] →

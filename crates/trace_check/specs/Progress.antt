@@ -3,7 +3,7 @@
 --     IsAppended goal k w      the gates w were appended: the first k of the target's where k is a number, and none of the target's
 --                             beginnings where it is None
 --     Grows goal j gates k    so it is with these gates more
---     placed s w              what the lines behind `place` work on, where the gates w were appended
+--     placed_state s w        what the lines behind `place` work on, where the gates w were appended
 --     Came e v trace s behind n       the first n lines of the trace, which is of edition v, lead to the state s, and the lines `behind`
 --                             are left
 --     IsRouting s             what the lines behind `place` work on is fit
@@ -16,7 +16,7 @@
 --     IsHeldFit n h              what is held is on n wires, and its turn is below 8
 --     LeadsOn w h s g t ls behind       where edition v has the word w, the first of the lines ls apply, and lead from s, with h held, to t,
 --                             with g held, and the lines `behind` are left
---     Leads w s t ls behind   so it is, and what is held stays
+--     LeadsWithHeld w s t ls behind  so it is, and what is held stays
 --     IsListing w         behind a line of the word w gates are listed that come in the place of all
 --     IsSame w n old new      what it asks of these and the ones before
 --     BlockedWith h s ls           no line applies that the first of the lines ls spell, where h is held;  Blocked s ls: whatever is held
@@ -31,7 +31,7 @@ use Rattle.rewrite_pass.specs.Traces.{Step, Rule, Both, Join}
 use Rattle.rewrite_pass.specs.TraceLines.{words}
 use Rattle.trace_model.specs.Lines.{IsLineIn, Line, all_spelt, edition_of, spelt}
 use Rattle.trace_text.specs.Texts.{lines_of}
-use Rattle.trace_model.specs.Proves.{Applies, Claim, IsStuck, Placed, Rewritten, Routed, Runs, Seeking, State, Unread}
+use Rattle.trace_model.specs.Proves.{Applies, Claim, NoLineApplies, Placed, Rewritten, Routed, Runs, Seeking, ProofState, Unread}
 use Rattle.trace_model.specs.Spelling.{IsWordIn, spelling}
 use Rattle.trace_check.specs.declared.goals.Held.{Held}
 use Rattle.trace_model.specs.declared.word.Word.{Word}
@@ -53,10 +53,10 @@ IsAppended goal (Some k) written = (k ≤ length goal) × (written ≡ take k go
 abbrev pub Grows : List Gate → Option ℕ → List Gate → Option ℕ → Type 0
 Grows goal old gates new = (written : List Gate) → IsAppended goal old written → IsAppended goal new (written ++ gates)
 
-abbrev pub placed : Routing → List Gate → Placed
-placed s written = record { first = s.first.items; now = s.now; rest = s.rest.gates; written = written; turn = s.turn }
+abbrev pub placed_state : Routing → List Gate → Placed
+placed_state s written = record { first = s.first.items; now = s.now; rest = s.rest.gates; written = written; turn = s.turn }
 
-pub record Came (e : Claim) (v : ℕ) (trace : List ℕ) (s : State) (behind : List (List ℕ)) (n : ℕ) : Type 0 where
+pub record Came (e : Claim) (v : ℕ) (trace : List ℕ) (s : ProofState) (behind : List (List ℕ)) (n : ℕ) : Type 0 where
   pub edition : edition_of (lines_of trace) ≡ v
   pub done : List Line
   pub text : lines_of trace ≡ all_spelt done ++ behind
@@ -78,10 +78,10 @@ Goes w ks s t = (e : Claim) (v : ℕ) (behind : List (List ℕ)) → IsWordIn v 
 
 abbrev pub Moves : List Gate → Word → List ℕ → Routing → Routing → Type 0
 Moves goal w ks s t = (old : List Gate) → IsAppended goal s.agreed old →
-    (new : List Gate) × (IsAppended goal t.agreed new × Goes w ks (placed s old) (placed t new))
+    (new : List Gate) × (IsAppended goal t.agreed new × Goes w ks (placed_state s old) (placed_state t new))
 
 abbrev pub Halts : Word → List ℕ → Placed → Type 0
-Halts w ks s = (e : Claim) (v : ℕ) (behind : List (List ℕ)) → e.qubits ≡ length s.now → IsStuck e v (Routed s) (words (spelling w) ks ∷ behind)
+Halts w ks s = (e : Claim) (v : ℕ) (behind : List (List ℕ)) → e.qubits ≡ length s.now → NoLineApplies e v (Routed s) (words (spelling w) ks ∷ behind)
 
 abbrev pub step_named : Word → ℕ → ℕ → Option Step
 step_named word.Rule i j = Some (Rule i j)
@@ -89,7 +89,7 @@ step_named word.Both i j = Some (Both i j)
 step_named word.Join i j = Some (Join i j)
 step_named _ i j = None
 
-abbrev pub reached : Option Held → Passed → State
+abbrev pub reached : Option Held → Passed → ProofState
 reached None s = Rewritten s.body.gates s.turn
 reached (Some h) s = Seeking (record { held = h.body.gates; turn = h.turn; goal = h.goal.gates; gates = s.body.gates; since = s.turn })
 
@@ -101,11 +101,11 @@ abbrev pub LeadsOn : Word → Option Held → Passed → Option Held → Passed 
 LeadsOn w h s g t ls behind = (e : Claim) (v : ℕ) → IsWordIn v w → e.wires ≡ s.body.wires →
     (l : Line) × (IsLineIn v l × ((ls ≡ spelt l ++ behind) × Applies e (reached h s) l behind (reached g t)))
 
-abbrev pub Leads : Word → Passed → Passed → List (List ℕ) → List (List ℕ) → Type 0
-Leads w s t ls behind = (h : Option Held) → LeadsOn w h s h t ls behind
+abbrev pub LeadsWithHeld : Word → Passed → Passed → List (List ℕ) → List (List ℕ) → Type 0
+LeadsWithHeld w s t ls behind = (h : Option Held) → LeadsOn w h s h t ls behind
 
 abbrev pub BlockedWith : Option Held → Passed → List (List ℕ) → Type 0
-BlockedWith h s ls = (e : Claim) (v : ℕ) → e.wires ≡ s.body.wires → IsStuck e v (reached h s) ls
+BlockedWith h s ls = (e : Claim) (v : ℕ) → e.wires ≡ s.body.wires → NoLineApplies e v (reached h s) ls
 
 abbrev pub Blocked : Passed → List (List ℕ) → Type 0
 Blocked s ls = (h : Option Held) → BlockedWith h s ls

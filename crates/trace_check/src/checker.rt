@@ -31,8 +31,8 @@ ghost use Rattle.trace_text.specs.Texts.{lines_of};
 ghost use Rattle.trace_check.specs.Outcomes.{IsOutcome, claim};
 ghost use Rattle.rewrite_steps.specs.Known.{AreSpansIn};
 ghost use Rattle.trace_model.specs.Lines.{edition_of};
-ghost use Rattle.trace_check.specs.Progress.{Blocked, Came, IsHeldFit, IsListing, IsRouting, Leads, BlockedWith, LeadsOn, placed, reached, step_named};
-ghost use Rattle.trace_model.specs.Proves.{Claim, IsStuck, Routed, StopsAt, Unread};
+ghost use Rattle.trace_check.specs.Progress.{Blocked, Came, IsHeldFit, IsListing, IsRouting, LeadsWithHeld, BlockedWith, LeadsOn, placed_state, reached, step_named};
+ghost use Rattle.trace_model.specs.Proves.{Claim, NoLineApplies, Routed, StopsAt, Unread};
 ghost use Rattle.trace_model.specs.Spelling.{spelling};
 ghost use Rattle.trace_model.specs.declared.word.Word.TheVariants as kind;
 
@@ -117,7 +117,7 @@ struct Head<'a> {
 
 /// The first line of a text, if that begins a trace.
 fn headed<'a>(text: &'a [u8], numbers: &mut Vec<u32>) -> Result<Option<Head<'a>>, AllocError>
-    ensures lines { IfOk result (λ o. MatchOption o ((e : Claim) → IsStuck e (edition_of (lines_of text.now)) Unread (lines_of text.now))
+    ensures lines { IfOk result (λ o. MatchOption o ((e : Claim) → NoLineApplies e (edition_of (lines_of text.now)) Unread (lines_of text.now))
         (λ h. lines_of text.now ≡ words (codes "TRACE") (h.edition ∷ []) ∷ lines_of h.text.now)) }
     ensures edition { IfOk result (λ o. IfSome o (λ h. edition_of (lines_of text.now) ≡ h.edition)) }
     ensures shorter { IfOk result (λ o. IfSome o (λ h. length h.text.now < length text.now)) }
@@ -270,7 +270,7 @@ fn changed<'a>(
         (λ m. m.line + length (lines_of m.text.now) ≡ mark.entry.line + length (lines_of mark.entry.text.now))) }
     ensures step { IfOk result
         (λ o. MatchOption o (Blocked state.old (words (spelling word) numbers.old.items ∷ lines_of mark.entry.text.now))
-        (λ m. Leads word state.old state.new (words (spelling word) numbers.old.items ∷ lines_of mark.entry.text.now)
+        (λ m. LeadsWithHeld word state.old state.new (words (spelling word) numbers.old.items ∷ lines_of mark.entry.text.now)
         (lines_of m.text.now))) }
 {
     if is_listing(word) {
@@ -301,7 +301,7 @@ fn rewrites(state: &mut Passed, known: &mut Known, word: Word, numbers: &[u32]) 
     ensures turn { state.new.turn < 8 }
     ensures known { AreSpansIn known.new state.new.body }
     ensures applies { result ≡ true → (behind : List (List ℕ)) →
-        Leads word state.old state.new (words (spelling word) numbers.now ∷ behind) behind }
+        LeadsWithHeld word state.old state.new (words (spelling word) numbers.now ∷ behind) behind }
     ensures not { result ≡ false → (behind : List (List ℕ)) → Blocked state.old (words (spelling word) numbers.now ∷ behind) }
 {
     let Some((first, second)) = two(numbers) else {
@@ -367,10 +367,10 @@ fn placing(
     ensures fit { IfOk result (λ o. IfSome o (λ r. IsRouting r × (length r.now ≡ qubits) × (r.agreed ≡ Some 0))) }
     ensures place { IfOk result (λ o. MatchOption o ((e : Claim) (v : ℕ) (behind : List (List ℕ)) → e.wires ≡ state.body.wires →
         e.qubits ≡ qubits →
-        IsStuck e v (reached None state) (words (codes "place") numbers.now ∷ behind))
+        NoLineApplies e v (reached None state) (words (codes "place") numbers.now ∷ behind))
         (λ r. (e : Claim) (v : ℕ) (trace : List ℕ) (behind : List (List ℕ)) (n : ℕ) → e.wires ≡ state.body.wires → e.qubits ≡ qubits →
         Came e v trace (reached None state) (words (codes "place") numbers.now ∷ behind) n →
-        Came e v trace (Routed (placed r [])) behind (n + 1))) }
+        Came e v trace (Routed (placed_state r [])) behind (n + 1))) }
 {
     if numbers.len() != qubits as usize || state.body.wires() > qubits {
         return Ok(None);

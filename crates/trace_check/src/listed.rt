@@ -4,7 +4,7 @@ ghost use Rattle.std.specs.Prelude.{◌≡◌, ◌+◌, ◌^◌, ◌<◌, ◌≤
 ghost use Rattle.rewrite_pass.specs.TraceLines.{words};
 ghost use Rattle.rewrite_pass.specs.Traces.{constants_turn};
 ghost use Rattle.trace_text.specs.Texts.{lines_of};
-ghost use Rattle.trace_check.specs.Progress.{Blocked, IsListing, IsSame, Leads};
+ghost use Rattle.trace_check.specs.Progress.{Blocked, IsListing, IsSame, LeadsWithHeld};
 ghost use Rattle.trace_model.specs.Spelling.{spelling};
 
 use crate::gates::read_gates;
@@ -63,7 +63,7 @@ pub(crate) fn replaced<'a>(
         (λ m. m.line + length (lines_of m.text.now) ≡ mark.entry.line + length (lines_of mark.entry.text.now))) }
     ensures step { IfOk result
         (λ o. MatchOption o (Blocked state.old (words (spelling word) numbers.old.items ∷ lines_of mark.entry.text.now))
-        (λ m. Leads word state.old state.new (words (spelling word) numbers.old.items ∷ lines_of mark.entry.text.now)
+        (λ m. LeadsWithHeld word state.old state.new (words (spelling word) numbers.old.items ∷ lines_of mark.entry.text.now)
         (lines_of m.text.now))) }
 {
     known_small(numbers);

@@ -3,7 +3,7 @@
 ghost use Rattle.std.specs.Prelude.{◌≡◌, ℕ, ◌+◌, ◌^◌, ◌<◌, ◌≤◌, ◌∷◌, ◌++◌, List, IfOk, IfSome, MatchOption, OnOk, codes, drop, length, take};
 ghost use Rattle.rewrite_pass.specs.TraceLines.{words};
 ghost use Rattle.trace_text.specs.Texts.{lines_of};
-ghost use Rattle.trace_check.specs.Progress.{Blocked, Leads};
+ghost use Rattle.trace_check.specs.Progress.{Blocked, LeadsWithHeld};
 ghost use Rattle.trace_model.specs.Proves.{slice_of};
 ghost use Rattle.trace_model.specs.declared.word.Word.TheVariants as kind;
 
@@ -72,7 +72,7 @@ pub(crate) fn replaced_part<'a>(
         (λ m. m.line + length (lines_of m.text.now) ≡ mark.entry.line + length (lines_of mark.entry.text.now))) }
     ensures step { IfOk result
         (λ o. MatchOption o (Blocked state.old (words (codes "part") numbers.old.items ∷ lines_of mark.entry.text.now))
-        (λ m. Leads kind.Part state.old state.new (words (codes "part") numbers.old.items ∷ lines_of mark.entry.text.now)
+        (λ m. LeadsWithHeld kind.Part state.old state.new (words (codes "part") numbers.old.items ∷ lines_of mark.entry.text.now)
         (lines_of m.text.now))) }
 {
     known_small(numbers);

@@ -4,7 +4,7 @@ ghost use Rattle.std.specs.Prelude.{◌≡◌, ℕ, ◌+◌, ◌-◌, ◌%◌, �
 ghost use Rattle.circuit_list.specs.declared.Gate.{Gate};
 ghost use Rattle.trace_text.specs.Texts.{lines_of};
 ghost use Rattle.trace_check.specs.Outcomes.{IsOutcome};
-ghost use Rattle.trace_check.specs.Progress.{Came, Ends, Halts, KeepsGoal, IsRouting, IsAppended, Moves, placed};
+ghost use Rattle.trace_check.specs.Progress.{Came, Ends, Halts, KeepsGoal, IsRouting, IsAppended, Moves, placed_state};
 ghost use Rattle.trace_model.specs.Proves.{Claim, Routed};
 ghost use Rattle.trace_model.specs.declared.word.Word.TheVariants as kind;
 
@@ -24,7 +24,7 @@ fn emits(state: &mut Routing, goal: &Circuit, numbers: &[u32]) -> bool
     requires { IsRouting state.old }
     ensures kept { KeepsGoal state.old state.new }
     ensures applies { result ≡ true → Moves goal.now.gates kind.Emit numbers.now state.old state.new }
-    ensures not { result ≡ false → (written : List Gate) → Halts kind.Emit numbers.now (placed state.old written) }
+    ensures not { result ≡ false → (written : List Gate) → Halts kind.Emit numbers.now (placed_state state.old written) }
 {
     match one(numbers) {
         Some(place) => emit(state, goal, place as usize),
@@ -37,7 +37,7 @@ fn backs(state: &mut Routing, goal: &Circuit, numbers: &[u32]) -> bool
     requires { IsRouting state.old }
     ensures kept { KeepsGoal state.old state.new }
     ensures applies { result ≡ true → Moves goal.now.gates kind.Back numbers.now state.old state.new }
-    ensures not { result ≡ false → (written : List Gate) → Halts kind.Back numbers.now (placed state.old written) }
+    ensures not { result ≡ false → (written : List Gate) → Halts kind.Back numbers.now (placed_state state.old written) }
 {
     match one(numbers) {
         Some(place) => back(state, goal, place as usize),
@@ -50,7 +50,7 @@ fn elides(state: &mut Routing, numbers: &[u32]) -> bool
     requires { IsRouting state.old }
     ensures kept { KeepsGoal state.old state.new }
     ensures applies { result ≡ true → (goal : List Gate) → Moves goal kind.Elide numbers.now state.old state.new }
-    ensures not { result ≡ false → (written : List Gate) → Halts kind.Elide numbers.now (placed state.old written) }
+    ensures not { result ≡ false → (written : List Gate) → Halts kind.Elide numbers.now (placed_state state.old written) }
 {
     match one(numbers) {
         Some(place) => elide(state, place as usize),
@@ -63,7 +63,7 @@ fn swaps(state: &mut Routing, goal: &Circuit, numbers: &[u32]) -> bool
     requires { IsRouting state.old }
     ensures kept { KeepsGoal state.old state.new }
     ensures applies { result ≡ true → Moves goal.now.gates kind.Swap numbers.now state.old state.new }
-    ensures not { result ≡ false → (written : List Gate) → Halts kind.Swap numbers.now (placed state.old written) }
+    ensures not { result ≡ false → (written : List Gate) → Halts kind.Swap numbers.now (placed_state state.old written) }
 {
     match two(numbers) {
         Some((u, v)) => swap(state, goal, u, v),
@@ -76,7 +76,7 @@ fn turns(state: &mut Routing, goal: &Circuit, numbers: &[u32]) -> bool
     requires { IsRouting state.old }
     ensures kept { KeepsGoal state.old state.new }
     ensures applies { result ≡ true → Moves goal.now.gates kind.Turn numbers.now state.old state.new }
-    ensures not { result ≡ false → (written : List Gate) → Halts kind.Turn numbers.now (placed state.old written) }
+    ensures not { result ≡ false → (written : List Gate) → Halts kind.Turn numbers.now (placed_state state.old written) }
 {
     match two(numbers) {
         Some((u, v)) => turn(state, goal, u, v),
@@ -90,7 +90,7 @@ fn routes(state: &mut Routing, goal: &Circuit, word: Word, numbers: &[u32]) -> b
     requires on { word ≡ kind.End → ⊥ }
     ensures kept { KeepsGoal state.old state.new }
     ensures applies { result ≡ true → Moves goal.now.gates word numbers.now state.old state.new }
-    ensures not { result ≡ false → (written : List Gate) → Halts word numbers.now (placed state.old written) }
+    ensures not { result ≡ false → (written : List Gate) → Halts word numbers.now (placed_state state.old written) }
 {
     match word {
         Word::Emit => emits(state, goal, numbers),
@@ -163,7 +163,7 @@ pub(crate) fn routed(
     requires goal { goal.now.turn < 8 }
     requires lines { line + length text.now < 2 ^ 32 }
     ensures ok { IfOk result (λ o. (e : Claim) (trace : List ℕ) (n : ℕ) (written : List Gate) → e.qubits ≡ length state.now → Ends e goal.now →
-        IsAppended goal.now.body.gates state.agreed written → Came e edition trace (Routed (placed state written)) (lines_of text.now) n →
+        IsAppended goal.now.body.gates state.agreed written → Came e edition trace (Routed (placed_state state written)) (lines_of text.now) n →
         line ≡ n + 1 → IsOutcome e trace o) }
 {
     let mut number = line;

@@ -5,7 +5,7 @@ ghost use Rattle.circuit_list.specs.Gates.{IsFine};
 ghost use Rattle.circuit_list.specs.Slots.{IsLive, place_of};
 ghost use Rattle.circuit_list.specs.declared.Gate.{Gate};
 ghost use Rattle.trace_check.specs.Progress.{Grows};
-ghost use Rattle.trace_model.specs.Proves.{IsFirst, on_qubits, swap_cx, turn_cx, turned_cx};
+ghost use Rattle.trace_model.specs.Proves.{IsFirst, on_qubits, swap_cx, swap_reversed_cx, reversed_cx};
 ghost use Rattle.unitary_model.specs.Placement.{exchanged};
 
 use circuit_list::{Circuit, Gate, Slot};
@@ -98,7 +98,7 @@ fn all_appended(goal: &Circuit, agreed: Option<usize>, gates: &[Gate]) -> Option
 
 /// A CNOT from `c` to `t`, turned round by four H.
 fn turned(c: u32, t: u32) -> [Gate; 5]
-    ensures { result ≡ turned_cx c t }
+    ensures { result ≡ reversed_cx c t }
 {
     [
         Gate::H { q: c },
@@ -156,7 +156,7 @@ pub(crate) fn back(state: &mut Routing, goal: &Circuit, place: usize) -> bool
     ensures first { state.new.first ≡ state.old.first }
     ensures now { state.new.now ≡ state.old.now }
     ensures applies { result ≡ true → (c : ℕ) × ((t : ℕ) × (IsFirst state.old.rest.gates place (Gate.Cx c t) × ((state.new.rest.gates ≡ remove state.old.rest.gates place)
-        × (Grows goal.now.gates state.old.agreed (turned_cx (slice_index state.old.now c) (slice_index state.old.now t)) state.new.agreed × (state.new.turn ≡ (state.old.turn + 4) % 8))))) }
+        × (Grows goal.now.gates state.old.agreed (reversed_cx (slice_index state.old.now c) (slice_index state.old.now t)) state.new.agreed × (state.new.turn ≡ (state.old.turn + 4) % 8))))) }
     ensures not { result ≡ false → ((c t : ℕ) → IsFirst state.old.rest.gates place (Gate.Cx c t) → ⊥) × ((state.new.rest.gates ≡ state.old.rest.gates)
         × ((state.new.agreed ≡ state.old.agreed) × (state.new.turn ≡ state.old.turn))) }
 {
@@ -203,7 +203,7 @@ pub(crate) fn turn(state: &mut Routing, goal: &Circuit, u: u32, v: u32) -> bool
     ensures first { state.new.first ≡ state.old.first }
     ensures rest { state.new.rest ≡ state.old.rest }
     ensures applies { result ≡ true → (u < length state.old.now) × ((v < length state.old.now) × ((u ≢ v) × ((state.new.now ≡ map (exchanged u v) state.old.now)
-        × (Grows goal.now.gates state.old.agreed (turn_cx u v) state.new.agreed × (state.new.turn ≡ (state.old.turn + 4) % 8))))) }
+        × (Grows goal.now.gates state.old.agreed (swap_reversed_cx u v) state.new.agreed × (state.new.turn ≡ (state.old.turn + 4) % 8))))) }
     ensures not { result ≡ false → ((u < length state.old.now) → (v < length state.old.now) → (u ≢ v) → ⊥) × ((state.new.now ≡ state.old.now)
         × ((state.new.agreed ≡ state.old.agreed) × (state.new.turn ≡ state.old.turn))) }
 {

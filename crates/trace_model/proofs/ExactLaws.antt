@@ -14,7 +14,7 @@ use Rattle.circuit_list.specs.declared.Gate.TheVariants.{Cx}
 use Rattle.rewrite_pass.proofs.AlikeLaws.{SameStep, step_alike}
 use Rattle.trace_model.specs.Lines.{Line, Heading, Rewrite, Part, Phases, Goal, Meet, Place, Emit, Back, Elide, Swap, Turn, End, all_spelt, edition_of, spelt}
 use Rattle.trace_text.specs.Texts.{lines_of}
-use Rattle.trace_model.specs.Proves.{Claim, Placed, Sought, State, Unread, Rewritten, Seeking, Routed, Proved, Applies, Runs, Proves, StopsAt, IsOpen, IsStuck, IsFirst, Changes, IsRewrite, IsSoughtRewrite, IsEmit, IsReversed, IsElide, on_qubits, turned_cx}
+use Rattle.trace_model.specs.Proves.{Claim, Placed, Sought, ProofState, Unread, Rewritten, Seeking, Routed, Proved, Applies, Runs, Proves, StopsAt, IsOpen, NoLineApplies, IsFirst, Changes, IsRewrite, IsSoughtRewrite, IsEmit, IsReversed, IsElide, on_qubits, reversed_cx}
 use Rattle.trace_model.proofs.SpellingLaws.{spelt-unique, first-spelt, line_word, first_numbers, line_gates}
 use Rattle.rewrite_pass.specs.TraceLines.{words, gate_line}
 
@@ -27,12 +27,12 @@ change_alike n old (Part i j gates) new other t u a b = record { gates = a.becom
 change_alike n old (Phases gates) new other t u a b = record { gates = a.becomes ∙ sym b.becomes; turn = a.turn ∙ sym b.turn }
 change_alike n old _ new other t u a b = absurd a
 
-rewrite_alike : (n : ℕ) (gates : List Gate) (j : ℕ) (l : Line) (u v : State) → IsRewrite n gates j l u → IsRewrite n gates j l v → u ≡ v
+rewrite_alike : (n : ℕ) (gates : List Gate) (j : ℕ) (l : Line) (u v : ProofState) → IsRewrite n gates j l u → IsRewrite n gates j l v → u ≡ v
 rewrite_alike n gates j l u v a b =
     let h = change_alike n gates l a.gates b.gates a.turn b.turn a.step b.step in
     a.after ∙ (λ z. Rewritten (h.gates z) ((j + h.turn z) % 8)) ∙ sym b.after
 
-emit_alike : (s : Placed) (i : ℕ) (u v : State) → IsEmit s i u → IsEmit s i v → u ≡ v
+emit_alike : (s : Placed) (i : ℕ) (u v : ProofState) → IsEmit s i u → IsEmit s i v → u ≡ v
 emit_alike s i u v a b =
     let g : a.gate ≡ b.gate = same_gate s.rest i a.gate b.gate a.first.there b.first.there in
     a.after ∙ (λ z. Routed (record s { rest = remove s.rest i; written = s.written ++ on_qubits s.now (g z) ∷ [] })) ∙ sym b.after
@@ -44,12 +44,12 @@ record Ends (c t d u : ℕ) : Type 0 where
 ends : (c t d u : ℕ) → Cx c t ≡ Cx d u → Ends c t d u
 ends c t d u e = record { control = cc; target = cc }
 
-back_alike : (s : Placed) (i : ℕ) (u v : State) → IsReversed s i u → IsReversed s i v → u ≡ v
+back_alike : (s : Placed) (i : ℕ) (u v : ProofState) → IsReversed s i u → IsReversed s i v → u ≡ v
 back_alike s i u v a b =
     let g = ends a.c a.t b.c b.t (same_gate s.rest i (Cx a.c a.t) (Cx b.c b.t) a.first.there b.first.there) in
-    a.after ∙ (λ z. Routed (record s { rest = remove s.rest i; written = s.written ++ turned_cx (slice_index s.now (g.control z)) (slice_index s.now (g.target z)); turn = (s.turn + 4) % 8 })) ∙ sym b.after
+    a.after ∙ (λ z. Routed (record s { rest = remove s.rest i; written = s.written ++ reversed_cx (slice_index s.now (g.control z)) (slice_index s.now (g.target z)); turn = (s.turn + 4) % 8 })) ∙ sym b.after
 
-sought_alike : (n : ℕ) (o : Sought) (l : Line) (u v : State) → IsSoughtRewrite n o l u → IsSoughtRewrite n o l v → u ≡ v
+sought_alike : (n : ℕ) (o : Sought) (l : Line) (u v : ProofState) → IsSoughtRewrite n o l u → IsSoughtRewrite n o l v → u ≡ v
 sought_alike n o l u v a b =
     let h = change_alike n o.gates l a.gates b.gates a.turn b.turn a.step b.step in
     a.after ∙ (λ z. Seeking (record o { gates = h.gates z; since = (o.since + h.turn z) % 8 })) ∙ sym b.after
@@ -77,7 +77,7 @@ cx_place gs a b c d i j e x y =
     own : (a b : ℕ) → is_on a (Cx a b) ≡ true
     own a b = grind (arith, nat_tests)
 
-elide_alike : (s : Placed) (i : ℕ) (u v : State) → IsElide s i u → IsElide s i v → u ≡ v
+elide_alike : (s : Placed) (i : ℕ) (u v : ProofState) → IsElide s i u → IsElide s i v → u ≡ v
 elide_alike s i u v x y =
     let g = ends x.a x.b y.a y.b (same_gate s.rest i (Cx x.a x.b) (Cx y.a y.b) x.first.there y.first.there) in
     let r : List Gate = remove s.rest i in
@@ -87,7 +87,7 @@ elide_alike s i u v x y =
     ∙ (λ z. Routed (record s { now = map (exchanged (slice_index s.now (g.control z)) (slice_index s.now (g.target z))) s.now; rest = remove (remove r (j z)) (k z) }))
     ∙ sym y.after
 
-pub line_alike : (e : Claim) (s : State) (l : Line) (behind : List (List ℕ)) (u v : State) → Applies e s l behind u → Applies e s l behind v → u ≡ v
+pub line_alike : (e : Claim) (s : ProofState) (l : Line) (behind : List (List ℕ)) (u v : ProofState) → Applies e s l behind u → Applies e s l behind v → u ≡ v
 line_alike e Unread (Heading n) behind u v a b = a ∙ sym b
 line_alike e (Rewritten gates j) (Rewrite s) behind u v a b = rewrite_alike e.wires gates j (Rewrite s) u v a b
 line_alike e (Rewritten gates j) (Part x y gs) behind u v a b = rewrite_alike e.wires gates j (Part x y gs) u v a b
@@ -113,12 +113,12 @@ some_line l r e = let f : words (line_word l) (first_numbers l) ∷ (map gate_li
 split : (l : Line) (ls : List Line) (behind : List (List ℕ)) → all_spelt (l ∷ ls) ++ behind ≡ spelt l ++ (all_spelt ls ++ behind)
 split l ls behind = append_assoc (spelt l) (all_spelt ls) behind
 
-open_not : (p q : List ℕ) (j : ℕ) (s : State) → s ≡ Proved p q j → IsOpen s → ⊥
+open_not : (p q : List ℕ) (j : ℕ) (s : ProofState) → s ≡ Proved p q j → IsOpen s → ⊥
 open_not p q j s e h = subst IsOpen e h
 
 -- two runs over one text, of which the first can't go on and the second is at the end of its lines
-stuck_first : (e : Claim) (v : ℕ) (s : State) (ds : List Line) (x : State) (behind : List (List ℕ)) (ls : List Line) (p q : List ℕ) (j : ℕ) → all_spelt ds ++ behind ≡ all_spelt ls ++ [] →
-    Runs e v s ds behind x → IsOpen x → IsStuck e v x behind → Runs e v s ls [] (Proved p q j) → ⊥
+stuck_first : (e : Claim) (v : ℕ) (s : ProofState) (ds : List Line) (x : ProofState) (behind : List (List ℕ)) (ls : List Line) (p q : List ℕ) (j : ℕ) → all_spelt ds ++ behind ≡ all_spelt ls ++ [] →
+    Runs e v s ds behind x → IsOpen x → NoLineApplies e v x behind → Runs e v s ls [] (Proved p q j) → ⊥
 stuck_first e v s [] x behind [] p q j t d o k r = open_not p q j x (d ∙ sym r) o
 stuck_first e v s [] x behind (l ∷ ls) p q j t d o k r =
     k l (all_spelt ls ++ []) r.0 (t ∙ split l ls []) r.1.0 (subst (λ y. Applies e y l (all_spelt ls ++ []) r.0) (sym d) r.1.1.0)
@@ -133,8 +133,8 @@ pub stops_not_proves : (e : Claim) (trace : List ℕ) (n : ℕ) (p q : List ℕ)
 stops_not_proves e trace n p q j s h = stuck_first e (edition_of (lines_of trace)) Unread s.done s.state s.behind h.lines p q j (sym s.text ∙ h.text ∙ sym (append-nil (all_spelt h.lines))) s.run s.unproved s.stuck h.run
 
 -- two that can't go on
-both_stuck : (e : Claim) (v : ℕ) (s : State) (ds : List Line) (x : State) (behind : List (List ℕ)) (ls : List Line) (y : State) (after : List (List ℕ)) → all_spelt ds ++ behind ≡ all_spelt ls ++ after →
-    Runs e v s ds behind x → IsStuck e v x behind → Runs e v s ls after y → IsStuck e v y after → all_spelt ds ≡ all_spelt ls
+both_stuck : (e : Claim) (v : ℕ) (s : ProofState) (ds : List Line) (x : ProofState) (behind : List (List ℕ)) (ls : List Line) (y : ProofState) (after : List (List ℕ)) → all_spelt ds ++ behind ≡ all_spelt ls ++ after →
+    Runs e v s ds behind x → NoLineApplies e v x behind → Runs e v s ls after y → NoLineApplies e v y after → all_spelt ds ≡ all_spelt ls
 both_stuck e v s [] x behind [] y after t d k r m = refl
 both_stuck e v s [] x behind (l ∷ ls) y after t d k r m =
     absurd (k l (all_spelt ls ++ after) r.0 (t ∙ split l ls after) r.1.0 (subst (λ z. Applies e z l (all_spelt ls ++ after) r.0) (sym d) r.1.1.0))
@@ -161,7 +161,7 @@ pub record SameEnd (p q r s : List ℕ) (j k : ℕ) : Type 0 where
 same_end : (p q r s : List ℕ) (j k : ℕ) → Proved p q j ≡ Proved r s k → SameEnd p q r s j k
 same_end p q r s j k e = record { first = cc; last = cc; turn = cc }
 
-over : (e : Claim) (s : State) (p q : List ℕ) (j : ℕ) (l : Line) (rest : List (List ℕ)) (new : State) → Proved p q j ≡ s → Applies e s l rest new → ⊥
+over : (e : Claim) (s : ProofState) (p q : List ℕ) (j : ℕ) (l : Line) (rest : List (List ℕ)) (new : ProofState) → Proved p q j ≡ s → Applies e s l rest new → ⊥
 over e s p q j l rest new f a = none l (subst (λ z. Applies e z l rest new) (sym f) a)
   where
     none : (l : Line) → Applies e (Proved p q j) l rest new → ⊥
@@ -179,7 +179,7 @@ over e s p q j l rest new f a = none l (subst (λ z. Applies e z l rest new) (sy
     none (Turn u v) a = a
     none (End j) a = a
 
-both_proved : (e : Claim) (v : ℕ) (s : State) (ds ls : List Line) (p q r t : List ℕ) (j k : ℕ) → all_spelt ds ++ [] ≡ all_spelt ls ++ [] → Runs e v s ds [] (Proved p q j) → Runs e v s ls [] (Proved r t k) → SameEnd p q r t j k
+both_proved : (e : Claim) (v : ℕ) (s : ProofState) (ds ls : List Line) (p q r t : List ℕ) (j k : ℕ) → all_spelt ds ++ [] ≡ all_spelt ls ++ [] → Runs e v s ds [] (Proved p q j) → Runs e v s ls [] (Proved r t k) → SameEnd p q r t j k
 both_proved e v s [] [] p q r t j k f a b = same_end p q r t j k (a ∙ sym b)
 both_proved e v s [] (l ∷ ls) p q r t j k f a b = absurd (over e s p q j l (all_spelt ls ++ []) b.0 a b.1.1.0)
 both_proved e v s (d ∷ ds) [] p q r t j k f a b = absurd (over e s r t k d (all_spelt ds ++ []) a.0 b a.1.1.0)

@@ -33,7 +33,7 @@ use Rattle.unitary_model.proofs.Steps.{WiresBelow-append}
 use Rattle.rewrite_pass.proofs.GateSteps.{AllOff, OffGate, off_op}
 use Rattle.rewrite_pass.proofs.ListLaws.{all_remove}
 use Rattle.rewrite_pass.proofs.RewritingLaws.{ops_joined}
-use Rattle.trace_model.specs.Proves.{Claim, Placed, on_qubits, turned_cx, swap_cx, turn_cx, IsFirst}
+use Rattle.trace_model.specs.Proves.{Claim, Placed, on_qubits, reversed_cx, swap_cx, swap_reversed_cx, IsFirst}
 
 -- ---- a gate that is first on its wires
 off_one : (g x : Gate) → is_on (first_wire g) x ≡ false → is_on (second_wire g) x ≡ false → OffGate g (x ∷ [])
@@ -60,11 +60,11 @@ turned_window : Agree 4 (OpCx 0 1 ∷ []) (had 0 ∷ had 1 ∷ OpCx 1 0 ∷ had 
 unfolding Agree plus turn1 unit nought
 turned_window = refl
 
-turned : (c t : ℕ) → c ≢ t → Turns 4 (OpCx c t ∷ []) (ops (turned_cx c t))
+turned : (c t : ℕ) → c ≢ t → Turns 4 (OpCx c t ∷ []) (ops (reversed_cx c t))
 turned c t h = in_place c t (c + t + 1) (record { first_second = h; first_third = omega arith; second_third = omega arith }) 4 _ _ turned_window
 
-turned_swap : (u v : ℕ) → u ≢ v → Turns 4 (OpCx u v ∷ OpCx v u ∷ OpCx u v ∷ []) (ops (turn_cx u v))
-turned_swap u v h = Turns_inside 4 (OpCx u v ∷ []) (OpCx v u ∷ []) (ops (turned_cx v u)) (OpCx u v ∷ []) (turned v u (λ e. h (sym e)))
+turned_swap : (u v : ℕ) → u ≢ v → Turns 4 (OpCx u v ∷ OpCx v u ∷ OpCx u v ∷ []) (ops (swap_reversed_cx u v))
+turned_swap u v h = Turns_inside 4 (OpCx u v ∷ []) (OpCx v u ∷ []) (ops (reversed_cx v u)) (OpCx u v ∷ []) (turned v u (λ e. h (sym e)))
 
 -- ---- what is kept
 pub record Underway (e : Claim) (s : Placed) : Type 0 where
@@ -184,7 +184,7 @@ emit_underway e s i g first u =
     (gate_underway e s i g (on_qubits s.now g ∷ []) 0 first (omega arith) (on_qubits-below e.wires e.qubits s.now g u.fits f u.placed) (on_qubits-window s.now g) u)
 
 pub back_underway : (e : Claim) (s : Placed) (i c t : ℕ) → IsFirst s.rest i (Cx c t) → Underway e s →
-    Underway e (record s { rest = remove s.rest i; written = s.written ++ turned_cx (slice_index s.now c) (slice_index s.now t); turn = (s.turn + 4) % 8 })
+    Underway e (record s { rest = remove s.rest i; written = s.written ++ reversed_cx (slice_index s.now c) (slice_index s.now t); turn = (s.turn + 4) % 8 })
 back_underway e s i c t first u =
     let f = fine_there e.wires s.rest i (Cx c t) u.fine first.there in
     let lc : c < e.qubits = omega (arith, u.fits, f.0) in
@@ -192,7 +192,7 @@ back_underway e s i c t first u =
     let hc = u.placed.within c lc in
     let ht = u.placed.within t lt in
     let differ : slice_index s.now c ≢ slice_index s.now t = λ d. f.1.1 (sym (u.placed.once c lc) ∙ ap (λ k. position_of k s.now) d ∙ u.placed.once t lt) in
-    gate_underway e s i (Cx c t) (turned_cx (slice_index s.now c) (slice_index s.now t)) 4 first (omega arith) (hc, (ht, (ht, (hc, (hc, (ht, tt)))))) (turned (slice_index s.now c) (slice_index s.now t) differ) u
+    gate_underway e s i (Cx c t) (reversed_cx (slice_index s.now c) (slice_index s.now t)) 4 first (omega arith) (hc, (ht, (ht, (hc, (hc, (ht, tt)))))) (turned (slice_index s.now c) (slice_index s.now t) differ) u
 
 exchange_underway : (e : Claim) (s : Placed) (a b : ℕ) (vs : List Gate) (l : ℕ) → a < e.qubits → b < e.qubits → a ≢ b → l < 8 → WiresBelow e.qubits (ops vs) → Turns l (OpCx a b ∷ OpCx b a ∷ OpCx a b ∷ []) (ops vs) →
     Underway e s → Underway e (record s { now = map (exchanged a b) s.now; written = s.written ++ vs; turn = (s.turn + l) % 8 })
@@ -228,8 +228,8 @@ pub swap_underway : (e : Claim) (s : Placed) (a b : ℕ) → a < e.qubits → b 
 swap_underway e s a b ha hb ne u = exchange_underway e s a b (swap_cx a b) 0 ha hb ne (omega arith) (ha, (hb, (hb, (ha, (ha, (hb, tt)))))) (Turns_refl _) u
 
 pub turn_underway : (e : Claim) (s : Placed) (a b : ℕ) → a < e.qubits → b < e.qubits → a ≢ b → Underway e s →
-    Underway e (record s { now = map (exchanged a b) s.now; written = s.written ++ turn_cx a b; turn = (s.turn + 4) % 8 })
-turn_underway e s a b ha hb ne u = exchange_underway e s a b (turn_cx a b) 4 ha hb ne (omega arith)
+    Underway e (record s { now = map (exchanged a b) s.now; written = s.written ++ swap_reversed_cx a b; turn = (s.turn + 4) % 8 })
+turn_underway e s a b ha hb ne u = exchange_underway e s a b (swap_reversed_cx a b) 4 ha hb ne (omega arith)
     (ha, (hb, (hb, (ha, (ha, (hb, (hb, (ha, (ha, (hb, tt)))))))))) (turned_swap a b ne) u
 
 -- ---- a swap that needs no gates

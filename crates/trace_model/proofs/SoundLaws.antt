@@ -20,7 +20,7 @@ use Rattle.unitary_model.proofs.RingLaws.{turn-turn, turn_same}
 use Rattle.trace_model.proofs.PartLaws.{change_kept}
 use Rattle.trace_model.specs.Lines.{Line, Heading, Rewrite, Part, Phases, Goal, Meet, Place, Emit, Back, Elide, Swap, Turn, End, all_spelt, edition_of}
 use Rattle.trace_text.specs.Texts.{lines_of}
-use Rattle.trace_model.specs.Proves.{Claim, State, Sought, Unread, Rewritten, Seeking, Routed, Proved, Applies, Runs, Proves, IsRewrite, IsSoughtRewrite}
+use Rattle.trace_model.specs.Proves.{Claim, ProofState, Sought, Unread, Rewritten, Seeking, Routed, Proved, Applies, Runs, Proves, IsRewrite, IsSoughtRewrite}
 use Rattle.trace_model.proofs.RouteLaws.{Underway, placed_underway, emit_underway, back_underway, elide_underway, swap_underway, turn_underway, end_realises}
 
 pub SameUpTo_back : (k n : ℕ) (A B : List Op) → k < 8 → SameUpTo k n A B → SameUpTo ((8 - k) % 8) n B A
@@ -51,14 +51,14 @@ pub record Aiming (e : Claim) (s : Sought) : Type 0 where
   pub goal : AllByRecursion (IsFine e.wires) s.goal
   pub fine : AllByRecursion (IsFine e.wires) s.gates
 
-abbrev pub Known : Claim → State → Type 0
+abbrev pub Known : Claim → ProofState → Type 0
 Known e Unread = Unit {0}
 Known e (Rewritten gates t) = Source e gates t
 Known e (Seeking s) = Aiming e s
 Known e (Routed s) = Underway e s
 Known e (Proved p q j) = Realises e.source e.wires e.target e.qubits p q j
 
-become : (e : Claim) (s u : State) → s ≡ u → Known e u → Known e s
+become : (e : Claim) (s u : ProofState) → s ≡ u → Known e u → Known e s
 become e s u h k = subst (Known e) (sym h) k
 
 -- the goal's gates have become the held ones, so these are the goal's, the other way round
@@ -74,13 +74,13 @@ met e s h k = record {
     sums : (j t : ℕ) → t < 8 → (j + (8 - t) % 8) % 8 ≡ (j + (8 - t)) % 8
     sums j t lt = omega arith
 
-rewritten : (e : Claim) (gates : List Gate) (j : ℕ) (l : Line) (u : State) → Source e gates j → IsRewrite e.wires gates j l u → Known e u
+rewritten : (e : Claim) (gates : List Gate) (j : ℕ) (l : Line) (u : ProofState) → Source e gates j → IsRewrite e.wires gates j l u → Known e u
 rewritten e gates j l u k h =
     let d = change_kept e.wires gates l h.gates h.turn k.fine h.step in
     become e u (Rewritten h.gates ((j + h.turn) % 8)) h.after
     (record { below = omega arith; same = SameUpTo_trans j h.turn e.wires e.source (ops gates) (ops h.gates) k.below d.below k.same d.same; fine = d.fine })
 
-sought : (e : Claim) (s : Sought) (l : Line) (u : State) → Aiming e s → IsSoughtRewrite e.wires s l u → Known e u
+sought : (e : Claim) (s : Sought) (l : Line) (u : ProofState) → Aiming e s → IsSoughtRewrite e.wires s l u → Known e u
 sought e s l u k h =
     let d = change_kept e.wires s.gates l h.gates h.turn k.fine h.step in
     become e u (Seeking (record s { gates = h.gates; since = (s.since + h.turn) % 8 })) h.after (record {
@@ -91,7 +91,7 @@ sought e s l u k h =
       fine = d.fine;
     })
 
-pub line_known : (e : Claim) (c : IsClaim e) (s : State) (l : Line) (behind : List (List ℕ)) (u : State) → Known e s → Applies e s l behind u → Known e u
+pub line_known : (e : Claim) (c : IsClaim e) (s : ProofState) (l : Line) (behind : List (List ℕ)) (u : ProofState) → Known e s → Applies e s l behind u → Known e u
 line_known e c Unread (Heading v) behind u k h = become e u (Rewritten (expanded e.source) (turn_of e.source)) h
     (record { below = omega arith; same = c.source; fine = recursion_from_All (IsFine e.wires) (expanded e.source) c.fine })
 line_known e c (Rewritten gates j) (Rewrite s) behind u k h = rewritten e gates j (Rewrite s) u k h
@@ -114,7 +114,7 @@ line_known e c (Routed s) (End j) behind u k h = become e u (Proved s.first s.no
     (subst (λ t. Realises e.source e.wires e.target e.qubits s.first s.now t) (sym h.turn) (end_realises e s k h.empty h.written c.target))
 line_known e c _ _ behind u k h = absurd h
 
-pub run_known : (e : Claim) (c : IsClaim e) (v : ℕ) (s : State) (ls : List Line) (behind : List (List ℕ)) (u : State) → Known e s → Runs e v s ls behind u → Known e u
+pub run_known : (e : Claim) (c : IsClaim e) (v : ℕ) (s : ProofState) (ls : List Line) (behind : List (List ℕ)) (u : ProofState) → Known e s → Runs e v s ls behind u → Known e u
 run_known e c v s [] behind u k h = become e u s h k
 run_known e c v s (l ∷ ls) behind u k h = run_known e c v h.0 ls behind u (line_known e c s l (all_spelt ls ++ behind) h.0 k h.1.1.0) h.1.1.1
 

@@ -12,7 +12,7 @@ use Rattle.std.proofs.Common.{◌≡◌, ℕ, Bool, true, false, cond, not, ◌&
 use Rattle.std.specs.Prelude.{codes, drop, nat_eq}
 use Rattle.std.specs.List.{AllByRecursion, flat_map, list_all}
 use Rattle.std.proofs.lemmas.List.Elements.{All-from_recursion, recursion_from_All}
-use Rattle.trace_text.specs.Texts.{IsLine, IsWhole, begins, begun, commented, ended, in_line, lines_of, trace_of, traced}
+use Rattle.trace_text.specs.Texts.{IsLine, EndsEachLine, begins, begun, commented, ended, in_line, lines_of, trace_of, traced}
 
 -- ---- lines
 split_line : (c d : Bool) → (not c && d) ≡ true → (c ≡ false) × (d ≡ true)
@@ -63,7 +63,7 @@ each-unbroken (b ∷ t) = by_test (nat_eq b 10) refl (each-unbroken t)
 pub lines-unbroken : (t : List ℕ) → All IsLine (lines_of t)
 lines-unbroken t = All-from_recursion IsLine (lines_of t) (each-unbroken t)
 
-pub lines-joined : (a b : List ℕ) → IsWhole a → lines_of (a ++ b) ≡ lines_of a ++ lines_of b
+pub lines-joined : (a b : List ℕ) → EndsEachLine a → lines_of (a ++ b) ≡ lines_of a ++ lines_of b
 lines-joined a b whole = ap (λ z. lines_of (z ++ b)) (sym whole) ∙ lines-ended (lines_of a) b (each-unbroken a)
 
 -- ---- comments
@@ -81,7 +81,7 @@ comments-unbroken (l ∷ ls) h = (h.0, comments-unbroken ls h.1)
 pub lines-commented : (t : List ℕ) → lines_of (commented t) ≡ map (λ l. codes "//!" ++ l) (lines_of t)
 lines-commented t = ap lines_of (comments-ended (lines_of t)) ∙ each-ended (comments (lines_of t)) (comments-unbroken (lines_of t) (each-unbroken t))
 
-pub commented-whole : (t : List ℕ) → IsWhole (commented t)
+pub commented-whole : (t : List ℕ) → EndsEachLine (commented t)
 commented-whole t = ap ended (lines-commented t) ∙ sym (comments-ended (lines_of t))
 
 -- ---- the trace
@@ -98,7 +98,7 @@ traced-append (l ∷ xs) ys = by_test (begins (codes "//!") l) (traced-append xs
     by_test true h = ap (λ z. drop 3 l ∷ z) h
     by_test false h = h
 
-pub trace-behind : (text t : List ℕ) → IsWhole text → traced (lines_of text) ≡ [] → trace_of (text ++ commented t) ≡ ended (lines_of t)
+pub trace-behind : (text t : List ℕ) → EndsEachLine text → traced (lines_of text) ≡ [] → trace_of (text ++ commented t) ≡ ended (lines_of t)
 trace-behind text t whole none =
     ap (λ z. ended (traced z)) (lines-joined text (commented t) whole)
     ∙ ap ended (traced-append (lines_of text) (lines_of (commented t)))

@@ -4,7 +4,7 @@
 --     in_line b           b is no line break
 --     IsLine l            no byte of l is a line break
 --     ended ls            the bytes of lines, a line break behind each
---     IsWhole text        a line break ends each line of the text, the last one too
+--     EndsEachLine text   a line break ends each line of the text, the last one too
 --     begins p l          l begins with p
 --     traced ls           what follows `//!` in each of the lines ls that begins so
 --     trace_of text       what follows `//!` in each line that begins so, a line break behind each
@@ -29,8 +29,8 @@ IsLine l = list_all in_line l ≡ true
 abbrev pub ended : List (List ℕ) → List ℕ
 ended ls = flat_map (λ l. l ++ 10 ∷ []) ls
 
-abbrev pub IsWhole : List ℕ → Type 0
-IsWhole text = ended (lines_of text) ≡ text
+abbrev pub EndsEachLine : List ℕ → Type 0
+EndsEachLine text = ended (lines_of text) ≡ text
 
 abbrev pub begins : List ℕ → List ℕ → Bool
 begins [] l = true

@@ -10,26 +10,26 @@ use Rattle.std.specs.Prelude.{nat_eq, nat_lt, bit_xor}
 use Rattle.std.proofs.lemmas.Bool.{cases_lt}
 use Rattle.std.proofs.lemmas.Bool.Decides.{nat_tests}
 use Rattle.std.proofs.lemmas.Nat.Bits.{bit_at-pow_other}
-use Rattle.unitary_model.specs.Paths.{Event, Parities, toggled, Always, Covers}
+use Rattle.unitary_model.specs.Paths.{PathEvent, Parities, toggled, Always, Covers}
 use Rattle.unitary_model.specs.OddPaths.{Labels, relabel, toggle, own_variables}
-use Rattle.unitary_model.specs.Paths.Event.{Toggle, Fresh, Add}
+use Rattle.unitary_model.specs.Paths.PathEvent.{Toggle, Fresh, Add}
 use Rattle.unitary_model.proofs.PathRules.{relabel_off}
 use Rattle.unitary_model.proofs.PathLaws.{par, par-toggle, par_toggle, toggle_shorter, Linear, Low, extend, extend_old, extend_new, extend_linear}
 
 -- events without fresh variables, on wires below n
-abbrev pub Flat : ℕ → List Event → Type 0
+abbrev pub Flat : ℕ → List PathEvent → Type 0
 Flat n [] = Unit {0}
 Flat n (Toggle q ∷ es) = (q < n) × Flat n es
 Flat n (Fresh q ∷ es) = ⊥
 Flat n (Add c t ∷ es) = (c < n) × ((t < n) × Flat n es)
 
-abbrev pub final : List Event → Labels → Labels
+abbrev pub final : List PathEvent → Labels → Labels
 final [] labels = labels
 final (Toggle q ∷ es) labels = final es labels
 final (Fresh q ∷ es) labels = final es labels
 final (Add c t ∷ es) labels = final es (relabel labels t (bit_xor (labels t) (labels c)))
 
-abbrev pub toggled_labels : List Event → Labels → List ℕ
+abbrev pub toggled_labels : List PathEvent → Labels → List ℕ
 toggled_labels [] labels = []
 toggled_labels (Toggle q ∷ es) labels = labels q ∷ toggled_labels es labels
 toggled_labels (Fresh q ∷ es) labels = toggled_labels es labels
@@ -39,7 +39,7 @@ add_par : List ℕ → Parities → Parities
 add_par [] p = p
 add_par (l ∷ s) p = add_par s (toggled l p)
 
-flat_always : (n : ℕ) (es : List Event) (Q : Labels → Parities → Type 0) (labels : Labels) (p : Parities) → Flat n es → Always es Q labels p ≡ Q (final es labels) (add_par (toggled_labels es labels) p)
+flat_always : (n : ℕ) (es : List PathEvent) (Q : Labels → Parities → Type 0) (labels : Labels) (p : Parities) → Flat n es → Always es Q labels p ≡ Q (final es labels) (add_par (toggled_labels es labels) p)
 unfolding add_par
 flat_always n [] Q labels p h = refl
 flat_always n (Toggle q ∷ es) Q labels p h = flat_always n es Q labels (toggled (labels q) p) h.1
@@ -133,12 +133,12 @@ onto_own (suc n) labels q h = go (cases_lt q n) (λ g. onto_own n labels q g)
     go (inl g) r = extend_old (onto n labels) n (labels n) (2 ^ q) (λ i le. bit_at-pow_other q i (λ e. absurd (omega arith))) ∙ r g
     go (inr g) r = ap (λ z. extend (onto n labels) n (labels n) (2 ^ z)) (only g) ∙ extend_new (onto n labels) n (labels n) ∙ ap labels (sym (only g))
 
-record Follows (n : ℕ) (L : ℕ → ℕ) (es : List Event) (labels own : Labels) : Type 0 where
+record Follows (n : ℕ) (L : ℕ → ℕ) (es : List PathEvent) (labels own : Labels) : Type 0 where
   below : (q : ℕ) → q < n → final es labels q ≡ L (final es own q)
   above : (q : ℕ) → n ≤ q → final es labels q ≡ labels q
   odd : toggled_labels es labels ≡ map L (toggled_labels es own)
 
-follows : (n : ℕ) (L : ℕ → ℕ) → Linear L → (es : List Event) → Flat n es → (labels own : Labels) → ((q : ℕ) → q < n → labels q ≡ L (own q)) → Follows n L es labels own
+follows : (n : ℕ) (L : ℕ → ℕ) → Linear L → (es : List PathEvent) → Flat n es → (labels own : Labels) → ((q : ℕ) → q < n → labels q ≡ L (own q)) → Follows n L es labels own
 unfolding Linear
 follows n L lin [] f labels own h = record { below = h; above = λ q le. refl; odd = refl }
 follows n L lin (Toggle q ∷ es) f labels own h =
@@ -158,7 +158,7 @@ follows n L lin (Add c t ∷ es) f labels own h =
     inside q lt false = h q lt
 
 -- the same labels at the end and the same odd toggles, from the wires' own variables
-pub flat_covers : (n : ℕ) (A B : List Event) → Flat n A → Flat n B →
+pub flat_covers : (n : ℕ) (A B : List PathEvent) → Flat n A → Flat n B →
     ((q : ℕ) → q < n → final A (own_variables n) q ≡ final B (own_variables n) q) →
     par (toggled_labels A (own_variables n)) ≡ par (toggled_labels B (own_variables n)) → Covers A B
 flat_covers n A B fa fb ends odds = record {

@@ -9,26 +9,26 @@ use Rattle.unitary_model.specs.declared.Op.{Op}
 use Rattle.unitary_model.specs.declared.Op.TheVariants.{U, Cx}
 use Rattle.unitary_model.specs.Operations.{WiresBelow}
 use Rattle.unitary_model.specs.OddPaths.{Labels, relabel, own_variables, odd_paths}
-use Rattle.unitary_model.specs.Paths.{Event, Parities, toggled, toggle_where_odd, events_of, events, odd_size, Always}
-use Rattle.unitary_model.specs.Paths.Event.{Toggle, Fresh, Add}
+use Rattle.unitary_model.specs.Paths.{PathEvent, Parities, toggled, toggle_where_odd, events_of, events, odd_size, Always}
+use Rattle.unitary_model.specs.Paths.PathEvent.{Toggle, Fresh, Add}
 use Rattle.unitary_model.proofs.OddPathsForm.{odd_paths-events}
 use Rattle.unitary_model.proofs.PathLaws.{par, AtMost, AtMost-labels, size-from}
 
-abbrev pub Below : ℕ → List Event → Type 0
+abbrev pub Below : ℕ → List PathEvent → Type 0
 Below n [] = Unit {0}
 Below n (Toggle q ∷ es) = (q < n) × Below n es
 Below n (Fresh q ∷ es) = (q < n) × Below n es
 Below n (Add c t ∷ es) = (c < n) × ((t < n) × Below n es)
 
 -- ---- the events of a list have its wires
-toggle-below : (n k q : ℕ) (es : List Event) → q < n → Below n es → Below n (toggle_where_odd k q ++ es)
+toggle-below : (n k q : ℕ) (es : List PathEvent) → q < n → Below n es → Below n (toggle_where_odd k q ++ es)
 toggle-below n k q es h b = go (nat_eq (k % 2) 1)
   where
     go : (t : Bool) → Below n (cond t (Toggle q ∷ []) [] ++ es)
     go true = (h, b)
     go false = b
 
-below-append : (n : ℕ) (es fs : List Event) → Below n es → Below n fs → Below n (es ++ fs)
+below-append : (n : ℕ) (es fs : List PathEvent) → Below n es → Below n fs → Below n (es ++ fs)
 below-append n [] fs b f = f
 below-append n (Toggle q ∷ es) fs b f = (b.0, below-append n es fs b.1 f)
 below-append n (Fresh q ∷ es) fs b f = (b.0, below-append n es fs b.1 f)
@@ -66,7 +66,7 @@ agree-relabel n L M q l m a e p h = go (nat_eq p q)
     go true = e
     go false = a p h
 
-always-same : (n k : ℕ) (es : List Event) (L M : Labels) (p : Parities) → Below n es → Agree n L M → Always es (AtMost k) L p → Always es (AtMost k) M p
+always-same : (n k : ℕ) (es : List PathEvent) (L M : Labels) (p : Parities) → Below n es → Agree n L M → Always es (AtMost k) L p → Always es (AtMost k) M p
 unfolding Agree
 always-same n k [] L M p b a h = AtMost-labels k L M p h
 always-same n k (Toggle q ∷ es) L M p b a h = subst (λ l. Always es (AtMost k) M (toggled l p)) (a q b.0) (always-same n k es L M (toggled (L q) p) b.1 a h)
@@ -83,7 +83,7 @@ agree-back : (n : ℕ) (L M : Labels) → Agree n L M → Agree n M L
 unfolding Agree
 agree-back n L M a q h = sym (a q h)
 
-at_most : (n i j : ℕ) (es : List Event) → Below n es → Agree n (own_variables i) (own_variables j) → odd_size j es ≤ odd_size i es
+at_most : (n i j : ℕ) (es : List PathEvent) → Below n es → Agree n (own_variables i) (own_variables j) → odd_size j es ≤ odd_size i es
 at_most n i j es b a = size-from es i j (always-same n (odd_size i es) es (own_variables i) (own_variables j) (par []) b a)
 
 pub odd_paths-more : (n m : ℕ) (us : List Op) → n ≤ m → WiresBelow n us → odd_paths m us ≡ odd_paths n us

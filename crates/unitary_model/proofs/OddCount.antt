@@ -6,20 +6,20 @@ use Rattle.std.specs.Prelude.{nat_eq, bit_xor}
 use Rattle.std.proofs.lemmas.Bool.Decides.{nat_tests}
 use Rattle.unitary_model.specs.declared.Op.{Op}
 use Rattle.unitary_model.specs.declared.Op.TheVariants.{U, Cx}
-use Rattle.unitary_model.specs.Paths.{Event, odd_set, events, events_of, toggle_where_odd}
+use Rattle.unitary_model.specs.Paths.{PathEvent, odd_set, events, events_of, toggle_where_odd}
 use Rattle.unitary_model.specs.OddPaths.{Labels, relabel, toggle, own_variables, odd_paths}
 use Rattle.unitary_model.specs.Operations.{t_count}
-use Rattle.unitary_model.specs.Paths.Event.{Toggle, Fresh, Add}
+use Rattle.unitary_model.specs.Paths.PathEvent.{Toggle, Fresh, Add}
 use Rattle.unitary_model.proofs.OddPathsForm.{odd_paths-events}
 
 -- the number of toggles
-pub toggles : List Event → ℕ
+pub toggles : List PathEvent → ℕ
 toggles [] = 0
 toggles (Toggle q ∷ es) = suc (toggles es)
 toggles (Fresh q ∷ es) = toggles es
 toggles (Add c t ∷ es) = toggles es
 
-toggles-append : (es fs : List Event) → toggles (es ++ fs) ≡ toggles es + toggles fs
+toggles-append : (es fs : List PathEvent) → toggles (es ++ fs) ≡ toggles es + toggles fs
 unfolding toggles
 toggles-append [] fs = omega arith
 toggles-append (Toggle q ∷ es) fs = omega (arith, toggles-append es fs)
@@ -34,7 +34,7 @@ toggle_longer l (m ∷ s) = go (nat_eq m l) (toggle_longer l s)
     go true r = omega arith
     go false r = omega arith
 
-odd_set_bound : (es : List Event) (labels : Labels) (n : ℕ) (s : List ℕ) → length (odd_set es labels n s) ≤ toggles es + length s
+odd_set_bound : (es : List PathEvent) (labels : Labels) (n : ℕ) (s : List ℕ) → length (odd_set es labels n s) ≤ toggles es + length s
 unfolding toggles
 odd_set_bound [] labels n s = omega arith
 odd_set_bound (Toggle q ∷ es) labels n s = omega (arith, odd_set_bound es labels n (toggle (labels q) s), toggle_longer (labels q) s)

@@ -5,25 +5,25 @@ use Rattle.std.specs.Prelude.{nat_eq}
 use Rattle.unitary_model.specs.declared.Op.{Op}
 use Rattle.unitary_model.specs.declared.Op.TheVariants.{U, Cx}
 use Rattle.unitary_model.specs.OddPaths.{first_walk, Walk, toggle_at, toggle_odd, fresh_at, walked, walked_all, odd_paths}
-use Rattle.unitary_model.specs.Paths.{Event, toggle_where_odd, events_of, events, odd_set, odd_size}
-use Rattle.unitary_model.specs.Paths.Event.{Toggle, Fresh}
+use Rattle.unitary_model.specs.Paths.{PathEvent, toggle_where_odd, events_of, events, odd_set, odd_size}
+use Rattle.unitary_model.specs.Paths.PathEvent.{Toggle, Fresh}
 
 -- the odd set after the events, from a walk so far
-abbrev odd_after : List Event → Walk → List ℕ
+abbrev odd_after : List PathEvent → Walk → List ℕ
 odd_after es w = odd_set es w.labels w.unused w.odd
 
-where_odd : (k q : ℕ) (es : List Event) (w : Walk) → odd_after (toggle_where_odd k q ++ es) w ≡ odd_after es (toggle_odd k q w)
+where_odd : (k q : ℕ) (es : List PathEvent) (w : Walk) → odd_after (toggle_where_odd k q ++ es) w ≡ odd_after es (toggle_odd k q w)
 where_odd k q es w = go (nat_eq (k % 2) 1)
   where
     go : (t : Bool) → odd_after (cond t (Toggle q ∷ []) [] ++ es) w ≡ odd_after es (cond t (toggle_at q w) w)
     go true = refl
     go false = refl
 
-one : (u : Op) (es : List Event) (w : Walk) → odd_after (events_of u ++ es) w ≡ odd_after es (walked u w)
+one : (u : Op) (es : List PathEvent) (w : Walk) → odd_after (events_of u ++ es) w ≡ odd_after es (walked u w)
 one (Cx c t) es w = refl
 one (U a b c q) es w = go (nat_eq (a % 4) 0) (nat_eq (a % 2) 0)
   where
-    first : (fs : List Event) → odd_after ((toggle_where_odd c q ++ fs) ++ es) w ≡ odd_after (fs ++ es) (toggle_odd c q w)
+    first : (fs : List PathEvent) → odd_after ((toggle_where_odd c q ++ fs) ++ es) w ≡ odd_after (fs ++ es) (toggle_odd c q w)
     first fs = ap (λ gs. odd_after gs w) (append_assoc (toggle_where_odd c q) fs es) ∙ where_odd c q (fs ++ es) w
 
     go : (s t : Bool) →

@@ -19,30 +19,30 @@ use Rattle.std.proofs.lemmas.Bool.Decides.{nat_tests}
 use Rattle.std.proofs.lemmas.Nat.Bits.{bit_at_xor, bit_at-pow_same, bit_at-pow_other, bit_at-zero, bit_at-lt}
 use Rattle.std.specs.Int.Bits.{xor_assoc, xor_self, xor_zero_l, xor_zero_r}
 use Rattle.std.proofs.lemmas.Nat.{xor_comm}
-use Rattle.unitary_model.specs.Paths.{Event, Parities, toggled, odd_set, odd_size, Always, Covers}
+use Rattle.unitary_model.specs.Paths.{PathEvent, Parities, toggled, odd_set, odd_size, Always, Covers}
 use Rattle.unitary_model.specs.OddPaths.{Labels, relabel, toggle, own_variables}
-use Rattle.unitary_model.specs.Paths.Event.{Toggle, Fresh, Add}
+use Rattle.unitary_model.specs.Paths.PathEvent.{Toggle, Fresh, Add}
 
 -- ---- the algebra of Covers
-pub Covers_refl : (A : List Event) → Covers A A
+pub Covers_refl : (A : List PathEvent) → Covers A A
 Covers_refl A = record { law = λ Q labels p h. h }
 
-pub Covers_trans : (A B C : List Event) → Covers A B → Covers B C → Covers A C
+pub Covers_trans : (A B C : List PathEvent) → Covers A B → Covers B C → Covers A C
 Covers_trans A B C f g = record { law = λ Q labels p h. g.law Q labels p (f.law Q labels p h) }
 
-pub Always-append : (A B : List Event) (Q : Labels → Parities → Type 0) (labels : Labels) (p : Parities) → Always (A ++ B) Q labels p ≡ Always A (Always B Q) labels p
+pub Always-append : (A B : List PathEvent) (Q : Labels → Parities → Type 0) (labels : Labels) (p : Parities) → Always (A ++ B) Q labels p ≡ Always A (Always B Q) labels p
 Always-append [] B Q labels p = refl
 Always-append (Toggle q ∷ A) B Q labels p = Always-append A B Q labels (toggled (labels q) p)
 Always-append (Fresh q ∷ A) B Q labels p = λ i. (l : ℕ) → Always-append A B Q (relabel labels q l) p i
 Always-append (Add c t ∷ A) B Q labels p = Always-append A B Q (relabel labels t (bit_xor (labels t) (labels c))) p
 
-pub Always_more : (A : List Event) (Q R : Labels → Parities → Type 0) → ((labels : Labels) (p : Parities) → Q labels p → R labels p) → (labels : Labels) (p : Parities) → Always A Q labels p → Always A R labels p
+pub Always_more : (A : List PathEvent) (Q R : Labels → Parities → Type 0) → ((labels : Labels) (p : Parities) → Q labels p → R labels p) → (labels : Labels) (p : Parities) → Always A Q labels p → Always A R labels p
 Always_more [] Q R f labels p h = f labels p h
 Always_more (Toggle q ∷ A) Q R f labels p h = Always_more A Q R f labels (toggled (labels q) p) h
 Always_more (Fresh q ∷ A) Q R f labels p h = λ l. Always_more A Q R f (relabel labels q l) p (h l)
 Always_more (Add c t ∷ A) Q R f labels p h = Always_more A Q R f (relabel labels t (bit_xor (labels t) (labels c))) p h
 
-pub Covers_inside : (P A B S : List Event) → Covers A B → Covers (P ++ (A ++ S)) (P ++ (B ++ S))
+pub Covers_inside : (P A B S : List PathEvent) → Covers A B → Covers (P ++ (A ++ S)) (P ++ (B ++ S))
 Covers_inside P A B S f = record {
   law = λ Q labels p h.
       from (sym (Always-append P (B ++ S) Q labels p)) (Always_more P (Always (A ++ S) Q) (Always (B ++ S) Q)
@@ -238,7 +238,7 @@ low_relabel n labels q l h f p = inside (nat_eq p q)
     inside true = f
     inside false = h p
 
-free : (es : List Event) (L : ℕ → ℕ) (labels : Labels) (n : ℕ) (s : List ℕ) → Linear L → ((p : ℕ) → Low n (labels p)) → AllLow n s →
+free : (es : List PathEvent) (L : ℕ → ℕ) (labels : Labels) (n : ℕ) (s : List ℕ) → Linear L → ((p : ℕ) → Low n (labels p)) → AllLow n s →
     Always es (AtMost (length (odd_set es labels n s))) (λ p. L (labels p)) (par (map L s))
 unfolding AtMost par Linear
 free [] L labels n s h low lows = (map L s, refl, subst (λ k. k ≤ length s) (sym (length-map s L)) (omega arith))
@@ -259,7 +259,7 @@ free (Add c t ∷ es) L labels n s h low lows =
     (free es L (relabel labels t (bit_xor (labels t) (labels c))) n s h (low_relabel n labels t (bit_xor (labels t) (labels c)) low (Low-xor n (labels t) (labels c) (low t) (low c))) lows)
 
 -- the fresh variables of the walk are among all labels
-taken : (es : List Event) (m : ℕ) (labels : Labels) (n : ℕ) (s : List ℕ) → Clean s → Always es (AtMost m) labels (par s) → length (odd_set es labels n s) ≤ m
+taken : (es : List PathEvent) (m : ℕ) (labels : Labels) (n : ℕ) (s : List ℕ) → Clean s → Always es (AtMost m) labels (par s) → length (odd_set es labels n s) ≤ m
 unfolding AtMost
 taken [] m labels n s c h = omega (arith, least s h.0 c (sym h.1), h.2)
 taken (Toggle q ∷ es) m labels n s c h = taken es m labels n (toggle (labels q) s) (toggle_clean (labels q) s c) (subst (Always es (AtMost m) labels) (sym (par_toggle (labels q) s)) h)
@@ -282,12 +282,12 @@ unfolding AtMost
 AtMost-labels n labels others p h = h
 
 -- where what always holds from the own variables of n wires does so from those of m
-pub size-from : (es : List Event) (n m : ℕ) → (Always es (AtMost (odd_size n es)) (own_variables n) (par []) → Always es (AtMost (odd_size n es)) (own_variables m) (par [])) → odd_size m es ≤ odd_size n es
+pub size-from : (es : List PathEvent) (n m : ℕ) → (Always es (AtMost (odd_size n es)) (own_variables n) (par []) → Always es (AtMost (odd_size n es)) (own_variables m) (par [])) → odd_size m es ≤ odd_size n es
 unfolding par Clean AllLow Linear
 size-from es n m f = taken es (odd_size n es) (own_variables m) m [] tt (f (free es (λ x. x) (own_variables n) n [] (λ x y. refl) (own_low n) tt))
 
 -- what is covered has no larger odd set
-pub Covers-size : (A B : List Event) → Covers A B → (n : ℕ) → odd_size n B ≤ odd_size n A
+pub Covers-size : (A B : List PathEvent) → Covers A B → (n : ℕ) → odd_size n B ≤ odd_size n A
 unfolding par Clean AllLow Linear
 Covers-size A B f n = taken B (odd_size n A) (own_variables n) n [] tt
     (f.law (AtMost (odd_size n A)) (own_variables n) (par []) (free A (λ x. x) (own_variables n) n [] (λ x y. refl) (own_low n) tt))

@@ -11,9 +11,9 @@ use Rattle.std.specs.Prelude.{nat_eq, bit_xor}
 use Rattle.std.proofs.lemmas.Bool.Decides.{nat_tests}
 use Rattle.std.specs.Int.Bits.{xor_assoc, xor_self, xor_zero_r}
 use Rattle.std.proofs.lemmas.Nat.{xor_comm}
-use Rattle.unitary_model.specs.Paths.{Event, toggled, Covers}
+use Rattle.unitary_model.specs.Paths.{PathEvent, toggled, Covers}
 use Rattle.unitary_model.specs.OddPaths.{Labels, relabel}
-use Rattle.unitary_model.specs.Paths.Event.{Toggle, Fresh, Add}
+use Rattle.unitary_model.specs.Paths.PathEvent.{Toggle, Fresh, Add}
 use Rattle.unitary_model.proofs.PathLaws.{toggled_twice, toggled_comm}
 
 -- ---- labels written twice, or at different wires
@@ -73,7 +73,7 @@ pub toggles_gone : (q : ℕ) → Covers (Toggle q ∷ Toggle q ∷ []) []
 toggles_gone q = record { law = λ Q labels p g. subst (Q labels) (toggled_twice (labels q) p) g }
 
 -- ---- on other wires
-unfoldable pub Apart : Event → Event → Type 0
+unfoldable pub Apart : PathEvent → PathEvent → Type 0
 Apart (Toggle q) (Toggle r) = Unit {0}
 Apart (Toggle q) (Fresh r) = q ≢ r
 Apart (Toggle q) (Add c t) = q ≢ t
@@ -84,7 +84,7 @@ Apart (Add c t) (Toggle r) = r ≢ t
 Apart (Add c t) (Fresh r) = (r ≢ c) × (r ≢ t)
 Apart (Add c t) (Add d u) = (t ≢ d) × (u ≢ c)
 
-pub events_swap : (e f : Event) → Apart e f → Covers (e ∷ f ∷ []) (f ∷ e ∷ [])
+pub events_swap : (e f : PathEvent) → Apart e f → Covers (e ∷ f ∷ []) (f ∷ e ∷ [])
 unfolding Apart
 events_swap (Toggle q) (Toggle r) h = toggles_swap q r
 events_swap (Toggle q) (Fresh r) h = record { law = λ Q labels p g l. subst (λ k. Q (relabel labels r l) (toggled k p)) (sym (relabel_off labels r q l h)) (g l) }

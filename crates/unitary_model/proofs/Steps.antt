@@ -11,10 +11,10 @@ use Rattle.unitary_model.specs.declared.Op.{Op}
 use Rattle.unitary_model.specs.declared.Op.TheVariants.{U, Cx}
 use Rattle.unitary_model.specs.Operations.{t_count, cx_count, WiresBelow}
 use Rattle.unitary_model.specs.Acts.{Turns}
-use Rattle.unitary_model.specs.Paths.{Event, Covers, events, events_of, toggle_where_odd}
+use Rattle.unitary_model.specs.Paths.{PathEvent, Covers, events, events_of, toggle_where_odd}
 use Rattle.unitary_model.specs.OddPaths.{odd_paths}
 use Rattle.unitary_model.specs.SameUpTo.{SameUpTo}
-use Rattle.unitary_model.specs.Paths.Event.{Toggle, Fresh, Add}
+use Rattle.unitary_model.specs.Paths.PathEvent.{Toggle, Fresh, Add}
 use Rattle.unitary_model.proofs.TurnsLaws.{Turns_refl, Turns_trans, Turns_inside}
 use Rattle.unitary_model.proofs.Slide.{Off, OffOp, Turns_slide, Turns_slide_back}
 use Rattle.unitary_model.proofs.PathLaws.{Covers_refl, Covers_trans, Covers_inside, Covers-size}
@@ -71,21 +71,21 @@ Step_inside k P A B S f = record {
     three C = events-append P (C ++ S) ∙ ap (λ es. events P ++ es) (events-append C S)
 
 -- ---- events on other wires
-unfoldable pub OffE : ℕ → Event → Type 0
+unfoldable pub OffE : ℕ → PathEvent → Type 0
 OffE w (Toggle q) = q ≢ w
 OffE w (Fresh q) = q ≢ w
 OffE w (Add c t) = (c ≢ w) × (t ≢ w)
 
-unfoldable pub AllE : (Event → Type 0) → List Event → Type 0
+unfoldable pub AllE : (PathEvent → Type 0) → List PathEvent → Type 0
 AllE P [] = Unit {0}
 AllE P (e ∷ es) = P e × AllE P es
 
-pub AllE-append : (P : Event → Type 0) (es fs : List Event) → AllE P es → AllE P fs → AllE P (es ++ fs)
+pub AllE-append : (P : PathEvent → Type 0) (es fs : List PathEvent) → AllE P es → AllE P fs → AllE P (es ++ fs)
 unfolding AllE
 AllE-append P [] fs h g = g
 AllE-append P (e ∷ es) fs h g = (h.0, AllE-append P es fs h.1 g)
 
-pub where_odd_all : (P : Event → Type 0) (k q : ℕ) → P (Toggle q) → AllE P (toggle_where_odd k q)
+pub where_odd_all : (P : PathEvent → Type 0) (k q : ℕ) → P (Toggle q) → AllE P (toggle_where_odd k q)
 unfolding AllE
 where_odd_all P k q h = go (nat_eq (k % 2) 1)
   where
@@ -94,7 +94,7 @@ where_odd_all P k q h = go (nat_eq (k % 2) 1)
     go false = tt
 
 -- what holds of a toggle and of a fresh variable at q holds of each event of a U there
-events_of_all : (P : Event → Type 0) (a b c q : ℕ) → P (Toggle q) → P (Fresh q) → AllE P (events_of (U a b c q))
+events_of_all : (P : PathEvent → Type 0) (a b c q : ℕ) → P (Toggle q) → P (Fresh q) → AllE P (events_of (U a b c q))
 unfolding AllE
 events_of_all P a b c q h g = go (nat_eq (a % 4) 0) (nat_eq (a % 2) 0)
   where
@@ -110,58 +110,58 @@ events_off w (U a b c q ∷ us) h = AllE-append (OffE w) (events_of (U a b c q))
 events_off w (Cx c t ∷ us) h = ((h.0, h.1.0), events_off w us h.1.1)
 
 -- both orders
-unfoldable pub Free : Event → Event → Type 0
+unfoldable pub Free : PathEvent → PathEvent → Type 0
 Free e f = Apart e f × Apart f e
 
-free_toggle : (q : ℕ) (f : Event) → OffE q f → Free (Toggle q) f
+free_toggle : (q : ℕ) (f : PathEvent) → OffE q f → Free (Toggle q) f
 unfolding Free OffE Apart
 free_toggle q (Toggle r) h = (tt, tt)
 free_toggle q (Fresh r) h = ((λ e. h (sym e)), (λ e. h (sym e)))
 free_toggle q (Add c t) h = ((λ e. h.1 (sym e)), (λ e. h.1 (sym e)))
 
-free_fresh : (q : ℕ) (f : Event) → OffE q f → Free (Fresh q) f
+free_fresh : (q : ℕ) (f : PathEvent) → OffE q f → Free (Fresh q) f
 unfolding Free OffE Apart
 free_fresh q (Toggle r) h = (h, h)
 free_fresh q (Fresh r) h = ((λ e. h (sym e)), h)
 free_fresh q (Add c t) h = (((λ e. h.0 (sym e)), (λ e. h.1 (sym e))), ((λ e. h.0 (sym e)), (λ e. h.1 (sym e))))
 
-free_add : (c t : ℕ) (f : Event) → OffE c f → OffE t f → Free (Add c t) f
+free_add : (c t : ℕ) (f : PathEvent) → OffE c f → OffE t f → Free (Add c t) f
 unfolding Free OffE Apart
 free_add c t (Toggle r) h g = (g, g)
 free_add c t (Fresh r) h g = ((h, g), (h, g))
 free_add c t (Add d u) h g = (((λ e. g.0 (sym e)), h.1), (h.1, (λ e. g.0 (sym e))))
 
-AllE-map : (P R : Event → Type 0) → ((e : Event) → P e → R e) → (es : List Event) → AllE P es → AllE R es
+AllE-map : (P R : PathEvent → Type 0) → ((e : PathEvent) → P e → R e) → (es : List PathEvent) → AllE P es → AllE R es
 unfolding AllE
 AllE-map P R f [] h = tt
 AllE-map P R f (e ∷ es) h = (f e h.0, AllE-map P R f es h.1)
 
-AllE-two : (P S R : Event → Type 0) → ((e : Event) → P e → S e → R e) → (es : List Event) → AllE P es → AllE S es → AllE R es
+AllE-two : (P S R : PathEvent → Type 0) → ((e : PathEvent) → P e → S e → R e) → (es : List PathEvent) → AllE P es → AllE S es → AllE R es
 unfolding AllE
 AllE-two P S R f [] h g = tt
 AllE-two P S R f (e ∷ es) h g = (f e h.0 g.0, AllE-two P S R f es h.1 g.1)
 
-Covers_cons : (e : Event) (A B : List Event) → Covers A B → Covers (e ∷ A) (e ∷ B)
+Covers_cons : (e : PathEvent) (A B : List PathEvent) → Covers A B → Covers (e ∷ A) (e ∷ B)
 Covers_cons e A B f = subst (λ es. Covers (e ∷ es) (e ∷ B)) (append-nil A) (subst (λ es. Covers (e ∷ (A ++ [])) (e ∷ es)) (append-nil B) (Covers_inside (e ∷ []) A B [] f))
 
-past : (e : Event) (fs : List Event) → AllE (Free e) fs → Covers (e ∷ fs) (fs ++ e ∷ [])
+past : (e : PathEvent) (fs : List PathEvent) → AllE (Free e) fs → Covers (e ∷ fs) (fs ++ e ∷ [])
 unfolding AllE Free
 past e [] h = Covers_refl (e ∷ [])
 past e (f ∷ fs) h = Covers_trans (e ∷ f ∷ fs) (f ∷ e ∷ fs) (f ∷ (fs ++ e ∷ [])) (Covers_inside [] (e ∷ f ∷ []) (f ∷ e ∷ []) fs (events_swap e f h.0.0)) (Covers_cons f (e ∷ fs) (fs ++ e ∷ []) (past e fs h.1))
 
-past_back : (e : Event) (fs : List Event) → AllE (Free e) fs → Covers (fs ++ e ∷ []) (e ∷ fs)
+past_back : (e : PathEvent) (fs : List PathEvent) → AllE (Free e) fs → Covers (fs ++ e ∷ []) (e ∷ fs)
 unfolding AllE Free
 past_back e [] h = Covers_refl (e ∷ [])
 past_back e (f ∷ fs) h = Covers_trans (f ∷ (fs ++ e ∷ [])) (f ∷ e ∷ fs) (e ∷ f ∷ fs) (Covers_cons f (fs ++ e ∷ []) (e ∷ fs) (past_back e fs h.1)) (Covers_inside [] (f ∷ e ∷ []) (e ∷ f ∷ []) fs (events_swap f e h.0.1))
 
 -- a list past another
-pub all_past : (es fs : List Event) → AllE (λ e. AllE (Free e) fs) es → Covers (es ++ fs) (fs ++ es)
+pub all_past : (es fs : List PathEvent) → AllE (λ e. AllE (Free e) fs) es → Covers (es ++ fs) (fs ++ es)
 unfolding AllE
 all_past [] fs h = subst (Covers fs) (sym (append-nil fs)) (Covers_refl fs)
 all_past (e ∷ es) fs h = Covers_trans (e ∷ (es ++ fs)) (e ∷ (fs ++ es)) (fs ++ (e ∷ es)) (Covers_cons e (es ++ fs) (fs ++ es) (all_past es fs h.1))
     (subst (Covers (e ∷ (fs ++ es))) (append_assoc fs (e ∷ []) es) (Covers_inside [] (e ∷ fs) (fs ++ e ∷ []) es (past e fs h.0)))
 
-all_past_back : (es fs : List Event) → AllE (λ e. AllE (Free e) fs) es → Covers (fs ++ es) (es ++ fs)
+all_past_back : (es fs : List PathEvent) → AllE (λ e. AllE (Free e) fs) es → Covers (fs ++ es) (es ++ fs)
 unfolding AllE
 all_past_back [] fs h = subst (λ es. Covers es fs) (sym (append-nil fs)) (Covers_refl fs)
 all_past_back (e ∷ es) fs h = Covers_trans (fs ++ (e ∷ es)) (e ∷ (fs ++ es)) (e ∷ (es ++ fs))

@@ -1,5 +1,5 @@
 -- What the plain programs speak of.
---     ring_of v           the ring value that a program's value is
+--     reference_ring v    the ring value that a program's value is
 --     walk_of w           the walk that a program's is, its labels 0 past the end
 --     IsWithin n v        each part of a ring value is from -n to n
 use Rattle.std.specs.Prelude.{ℕ, slice_index, pos, neg_ℤ, ◌≤ℤ◌}
@@ -8,8 +8,8 @@ use Rattle.unitary_reference.specs.declared.paths.PathWalk.{PathWalk}
 use Rattle.unitary_model.specs.OddPaths.{Walk}
 use Rattle.unitary_model.specs.Ring.{Ring, ring}
 
-abbrev pub ring_of : Value → Ring
-ring_of v = ring v.a v.b v.c v.d
+abbrev pub reference_ring : Value → Ring
+reference_ring v = ring v.a v.b v.c v.d
 
 abbrev pub walk_of : PathWalk → Walk
 walk_of w = record { labels = slice_index w.labels; unused = w.unused; odd = w.odd.items }

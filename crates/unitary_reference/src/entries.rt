@@ -4,7 +4,7 @@ ghost use Rattle.std.specs.Prelude.{◌≡◌, ◌+◌, ◌^◌, ◌≤◌};
 ghost use Rattle.unitary_model.specs.Ring.{plus as sum_of, minus, turn1, turn};
 ghost use Rattle.unitary_model.specs.Operations.{weight};
 ghost use Rattle.unitary_model.specs.Amplitude.{bit_of, with_bit, same_bits, one_plus as times_one_plus, one_minus as times_one_minus, amplitude};
-ghost use Rattle.unitary_reference.specs.Values.{ring_of, IsWithin};
+ghost use Rattle.unitary_reference.specs.Values.{reference_ring, IsWithin};
 
 use unitary_model::Op;
 
@@ -19,9 +19,9 @@ pub struct Value {
 
 /// The sum, part by part.
 fn plus(v: Value, u: Value) -> Value
-    requires left { IsWithin (2 ^ 61) (ring_of v) }
-    requires right { IsWithin (2 ^ 61) (ring_of u) }
-    ensures sum { ring_of result ≡ sum_of (ring_of v) (ring_of u) }
+    requires left { IsWithin (2 ^ 61) (reference_ring v) }
+    requires right { IsWithin (2 ^ 61) (reference_ring u) }
+    ensures sum { reference_ring result ≡ sum_of (reference_ring v) (reference_ring u) }
 {
     Value {
         a: v.a + u.a,
@@ -33,8 +33,8 @@ fn plus(v: Value, u: Value) -> Value
 
 /// -v
 fn negated(v: Value) -> Value
-    requires small { IsWithin (2 ^ 61) (ring_of v) }
-    ensures negated { ring_of result ≡ minus (ring_of v) }
+    requires small { IsWithin (2 ^ 61) (reference_ring v) }
+    ensures negated { reference_ring result ≡ minus (reference_ring v) }
 {
     Value {
         a: -v.a,
@@ -46,8 +46,8 @@ fn negated(v: Value) -> Value
 
 /// w v
 fn turned_once(v: Value) -> Value
-    requires small { IsWithin (2 ^ 61) (ring_of v) }
-    ensures turned { ring_of result ≡ turn1 (ring_of v) }
+    requires small { IsWithin (2 ^ 61) (reference_ring v) }
+    ensures turned { reference_ring result ≡ turn1 (reference_ring v) }
 {
     Value {
         a: -v.d,
@@ -59,8 +59,8 @@ fn turned_once(v: Value) -> Value
 
 /// w^k v
 fn turned(v: Value, k: u16) -> Value
-    requires small { IsWithin (2 ^ 61) (ring_of v) }
-    ensures turned { ring_of result ≡ turn k (ring_of v) }
+    requires small { IsWithin (2 ^ 61) (reference_ring v) }
+    ensures turned { reference_ring result ≡ turn k (reference_ring v) }
 {
     let mut value = v;
     for step in 0..k {
@@ -71,34 +71,34 @@ fn turned(v: Value, k: u16) -> Value
 
 /// (1 + w^a) v
 fn one_plus(a: u8, v: Value) -> Value
-    requires small { IsWithin (2 ^ 60) (ring_of v) }
-    ensures value { ring_of result ≡ times_one_plus a (ring_of v) }
+    requires small { IsWithin (2 ^ 60) (reference_ring v) }
+    ensures value { reference_ring result ≡ times_one_plus a (reference_ring v) }
 {
     plus(v, turned(v, a as u16))
 }
 
 /// (1 - w^a) v
 fn one_minus(a: u8, v: Value) -> Value
-    requires small { IsWithin (2 ^ 60) (ring_of v) }
-    ensures value { ring_of result ≡ times_one_minus a (ring_of v) }
+    requires small { IsWithin (2 ^ 60) (reference_ring v) }
+    ensures value { reference_ring result ≡ times_one_minus a (reference_ring v) }
 {
     plus(v, negated(turned(v, a as u16)))
 }
 
 /// What a U makes of the entries behind it, `to0` and `to1`, where the bit before it is 0.
 fn from_zero(a: u8, b: u8, to0: Value, to1: Value) -> Value
-    requires first { IsWithin (2 ^ 59) (ring_of to0) }
-    requires second { IsWithin (2 ^ 59) (ring_of to1) }
-    ensures value { ring_of result ≡ sum_of (times_one_plus a (ring_of to0)) (turn (b + 2) (times_one_minus a (ring_of to1))) }
+    requires first { IsWithin (2 ^ 59) (reference_ring to0) }
+    requires second { IsWithin (2 ^ 59) (reference_ring to1) }
+    ensures value { reference_ring result ≡ sum_of (times_one_plus a (reference_ring to0)) (turn (b + 2) (times_one_minus a (reference_ring to1))) }
 {
     plus(one_plus(a, to0), turned(one_minus(a, to1), b as u16 + 2))
 }
 
 /// The same where the bit before it is 1.
 fn from_one(a: u8, b: u8, c: u8, to0: Value, to1: Value) -> Value
-    requires first { IsWithin (2 ^ 59) (ring_of to0) }
-    requires second { IsWithin (2 ^ 59) (ring_of to1) }
-    ensures value { ring_of result ≡ sum_of (minus (turn (c + 2) (times_one_minus a (ring_of to0)))) (turn (b + c) (times_one_plus a (ring_of to1))) }
+    requires first { IsWithin (2 ^ 59) (reference_ring to0) }
+    requires second { IsWithin (2 ^ 59) (reference_ring to1) }
+    ensures value { reference_ring result ≡ sum_of (minus (turn (c + 2) (times_one_minus a (reference_ring to0)))) (turn (b + c) (times_one_plus a (reference_ring to1))) }
 {
     plus(
         negated(turned(one_minus(a, to0), c as u16 + 2)),
@@ -111,7 +111,7 @@ fn from_one(a: u8, b: u8, c: u8, to0: Value, to1: Value) -> Value
 /// size. `x` is written to on the way, and is in the end as it was.
 pub fn amplitude_of(ops: &[Op], x: &mut [bool], y: &[bool]) -> Value
     requires weight_limit { weight ops.now ≤ 20 }
-    ensures entry { ring_of result ≡ amplitude ops.now x.old y.now }
+    ensures entry { reference_ring result ≡ amplitude ops.now x.old y.now }
     ensures kept { x.new ≡ x.old }
 {
     match ops {

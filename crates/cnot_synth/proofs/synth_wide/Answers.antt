@@ -1,12 +1,12 @@
 use Rattle.std.proofs.Common.{◌*◌, ◌≤◌, ℕ, List, All, length, subst, sym, ap, ◌∙◌}
-use Rattle.gf2_linear.specs.Matrices.{IsPair, run}
+use Rattle.gf2_linear.specs.Matrices.{IsPair, added_all}
 use Rattle.gf2_linear.specs.Wide.{below}
 use Rattle.gf2_linear.proofs.WideLaws.{below-run}
 use Rattle.cnot_synth.proofs.synth_wide.Goals as goal
 
 pub returns-clause-rows : goal.returns-clause-rows
 returns-clause-rows c =
-    ap (λ (q : List ℕ). run q c.in_ok-pairs.pairs.items) (sym c.in_ok-wide_from.ensures.below)
+    ap (λ (q : List ℕ). added_all q c.in_ok-pairs.pairs.items) (sym c.in_ok-wide_from.ensures.below)
     ∙ sym (below-run c.args.wires c.in_ok-wide_from.wide_from c.in_ok-pairs.pairs.items)
     ∙ ap (below c.args.wires) c.in_ok-pairs.ensures.rows ∙ c.in_ok-wide_to.ensures.below
 

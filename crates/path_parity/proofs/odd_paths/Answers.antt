@@ -3,7 +3,7 @@ use Rattle.circuit_list.specs.Gates.{ops}
 use Rattle.unitary_model.specs.OddPaths.{odd_paths}
 use Rattle.path_parity.specs.LabelWalks.{labels_at}
 use Rattle.path_parity.specs.PathSum.{own_labels}
-use Rattle.path_parity.specs.OddLabels.{odd_set, odd_sets, odd_size, toggled_all}
+use Rattle.path_parity.specs.OddLabels.{odd_label, odd_sets, odd_label_count, toggled_all}
 use Rattle.path_parity.proofs.LoopLaws.{odd-end, odd-step}
 use Rattle.path_parity.proofs.OddLaws.{odd_paths-sets}
 use Rattle.path_parity.proofs.odd_paths.Goals as goal
@@ -17,7 +17,7 @@ places-init c =
       odd = (
         [],
         c.new-odd.ensures.none,
-        (λ i. odd_size (odd_sets b.gates ((c.in_ok-walk.ensures.labels ∙ ap own_labels c.wires.ensures.wires) i) (n i))) ∙ sym (odd_paths-sets b.gates b.wires),
+        (λ i. odd_label_count (odd_sets b.gates ((c.in_ok-walk.ensures.labels ∙ ap own_labels c.wires.ensures.wires) i) (n i))) ∙ sym (odd_paths-sets b.gates b.wires),
       );
     }
 
@@ -28,7 +28,7 @@ places-preserved c =
     record {
       wires = c.in_ok-pass.ensures.wires ∙ c.places.invariant.wires;
       odd = (
-        toggled_all (odd_set c.gate-gate.result (labels_at c.places.walk)) o.0,
+        toggled_all (odd_label c.gate-gate.result (labels_at c.places.walk)) o.0,
         c.in_ok-toggle_at.ensures.toggled o.0 o.1,
         odd-step b.gates c.places.place c.gate-gate.result o.0 (labels_at c.places.walk) (labels_at c.pass.new.self) c.places.walk.unused c.pass.new.self.unused (odd_paths b.wires (ops b.gates))
             c.gate-gate.ensures.there c.in_ok-pass.ensures.labels c.in_ok-pass.ensures.unused o.2,

@@ -1,7 +1,7 @@
 use Rattle.std.proofs.Common.{◌++◌, map}
 use Rattle.outside_io.specs.Bytes.{Gains, GainsPrefix}
 use Rattle.trace_text.specs.Texts.{commented}
-use Rattle.qasm_writer.specs.Outputs.{bits_of, cut_of}
+use Rattle.qasm_writer.specs.Outputs.{register_bits, output_cut}
 use Rattle.qasm_writer.specs.Texts.{with_underscores, written_text}
 use Rattle.qasm_writer.proofs.OutputLaws.{AreLaws, HasText-written}
 use Rattle.qasm_writer.proofs.PartLaws.{IsCut-lengths}
@@ -23,7 +23,7 @@ returns-in_err-put_lines-clause-err g c =
     (λ text. GainsPrefix (g.S.Sink.held c.args.sink.now) (g.S.Sink.held c.put_lines.new.sink) text) c.requires.output c.underscores-q.ensures
     c.wires-wires.ensures.wires c.facts.ensures.wires_limit c.facts.ensures.fine
     (fault-whole _ _ c.args.buffer.now
-    (written_text (with_underscores c.underscores-q.result) c.wires-wires.result (cut_of o) (map bits_of o.registers.now) o.reads.now ++ commented o.trace.now)
+    (written_text (with_underscores c.underscores-q.result) c.wires-wires.result (output_cut o) (map register_bits o.registers.now) o.reads.now ++ commented o.trace.now)
     c.requires.empty c.in_err-put_lines.ensures.err))
 
 pub returns-clause-ok : goal.returns-clause-ok

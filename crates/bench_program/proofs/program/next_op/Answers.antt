@@ -5,7 +5,7 @@ use Rattle.unitary_model.specs.declared.Op.{Op}
 use Rattle.unitary_model.specs.declared.Op.TheVariants.{Cx}
 use Rattle.bench_program.specs.Draws.{next, draw}
 use Rattle.bench_program.specs.Program.{makes_cx, one_qubit, target}
-use Rattle.bench_program.specs.Walked.{op_at, after}
+use Rattle.bench_program.specs.Walked.{op_at, state_behind}
 use Rattle.bench_program.proofs.program.next_op.Goals as goal
 
 op-one : (size x k s w : ℕ) (b : Bool) (u : Op) → k ≡ draw x → s ≡ next x → w ≡ draw s → b ≡ makes_cx size (k % 8) → b ≡ false
@@ -16,8 +16,8 @@ op-one size x k s w b u kind second wire test answer op =
     let one : u ≡ one_qubit (draw x % 8) (draw (next x) % size) = cc in
     one ∙ sym (cond-false (makes_cx size (draw x % 8)) _ _ single)
 
-after-one : (size x k s t : ℕ) (b : Bool) → k ≡ draw x → s ≡ next x → t ≡ next s → b ≡ makes_cx size (k % 8) → b ≡ false → t ≡ after size x
-unfolding after
+after-one : (size x k s t : ℕ) (b : Bool) → k ≡ draw x → s ≡ next x → t ≡ next s → b ≡ makes_cx size (k % 8) → b ≡ false → t ≡ state_behind size x
+unfolding state_behind
 after-one size x k s t b kind second third test answer =
     let single : makes_cx size (draw x % 8) ≡ false = cc in
     let two : t ≡ next (next x) = cc in
@@ -33,8 +33,8 @@ op-two size x k s w t d b kind second wire third far test answer =
     two ∙ sym (cond-true (makes_cx size (draw x % 8)) _ _ double)
 
 after-two : (size x k s t v : ℕ) (b : Bool) → k ≡ draw x → s ≡ next x → t ≡ next s → v ≡ next t
-    → b ≡ makes_cx size (k % 8) → b ≡ true → v ≡ after size x
-unfolding after
+    → b ≡ makes_cx size (k % 8) → b ≡ true → v ≡ state_behind size x
+unfolding state_behind
 after-two size x k s t v b kind second third fourth test answer =
     let double : makes_cx size (draw x % 8) ≡ true = cc in
     let three : v ≡ next (next (next x)) = cc in

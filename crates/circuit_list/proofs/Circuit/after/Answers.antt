@@ -2,7 +2,7 @@ use Rattle.std.proofs.Common.{◌≡◌, ◌∙◌, ℕ, ◌+◌, sym, ap, subst
 use Rattle.circuit_list.specs.Body.{Body}
 use Rattle.circuit_list.specs.Entries.{entry}
 use Rattle.circuit_list.specs.Slots.{IsLive, place_of}
-use Rattle.circuit_list.specs.Tree.{IsFirstOn, NoneOn, any_wire}
+use Rattle.circuit_list.specs.Tree.{IsFirstSlotOn, NoSlotOn, any_wire}
 use Rattle.circuit_list.proofs.CircuitLaws.{after-none, after-some, live_entry}
 use Rattle.circuit_list.proofs.EntryLaws.{slot_below}
 use Rattle.circuit_list.proofs.Circuit.after.Goals as goal
@@ -22,7 +22,7 @@ returns-in_err-slot c = record {
       subst (λ (o : Option ℕ). MatchOption o (place_of c.args.s c.args.self.now.slots + 1 ≡ length c.args.self.now.gates)
       (λ t. IsLive c.args.self.now t × (place_of t c.args.self.now.slots ≡ place_of c.args.s c.args.self.now.slots + 1))) (sym c.from_residual.ensures)
       (subst (λ (b : Body). place_of c.args.s b.slots + 1 ≡ length b.gates) c.self.view_is
-      (after-none c.self.inside.tree c.args.s l.0 l.1 (subst (λ n. NoneOn any_wire c.self.inside.tree (n + 1) (length c.self.inside.tree)) c.index.ensures.value c.in_err-slot.ensures.found)));
+      (after-none c.self.inside.tree c.args.s l.0 l.1 (subst (λ n. NoSlotOn any_wire c.self.inside.tree (n + 1) (length c.self.inside.tree)) c.index.ensures.value c.in_err-slot.ensures.found)));
 }
 
 pub returns : goal.returns
@@ -31,5 +31,5 @@ returns c = record {
       let l = live_entry c.self.inside.tree c.args.s (subst (λ (b : Body). IsLive b c.args.s) (sym c.self.view_is) c.requires.live) in
       subst (λ t. IsLive c.args.self.now t × (place_of t c.args.self.now.slots ≡ place_of c.args.s c.args.self.now.slots + 1)) (sym c.new.ensures.value)
       (subst (λ (b : Body). IsLive b c.in_ok-slot.slot × (place_of c.in_ok-slot.slot b.slots ≡ place_of c.args.s b.slots + 1)) c.self.view_is
-      (after-some c.self.inside.tree c.args.s c.in_ok-slot.slot l.0 l.1 (subst (λ n. IsFirstOn any_wire c.self.inside.tree (n + 1) c.in_ok-slot.slot) c.index.ensures.value c.in_ok-slot.ensures.found)));
+      (after-some c.self.inside.tree c.args.s c.in_ok-slot.slot l.0 l.1 (subst (λ n. IsFirstSlotOn any_wire c.self.inside.tree (n + 1) c.in_ok-slot.slot) c.index.ensures.value c.in_ok-slot.ensures.found)));
 }

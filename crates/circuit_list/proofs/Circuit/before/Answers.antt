@@ -2,7 +2,7 @@ use Rattle.std.proofs.Common.{◌≡◌, ◌∙◌, ℕ, ◌+◌, sym, ap, subst
 use Rattle.circuit_list.specs.Body.{Body}
 use Rattle.circuit_list.specs.Entries.{entry}
 use Rattle.circuit_list.specs.Slots.{IsLive, place_of}
-use Rattle.circuit_list.specs.Tree.{IsLastOn, NoneOn, any_wire}
+use Rattle.circuit_list.specs.Tree.{IsLastOn, NoSlotOn, any_wire}
 use Rattle.circuit_list.proofs.CircuitLaws.{before-none, before-some, live_entry}
 use Rattle.circuit_list.proofs.EntryLaws.{slot_below}
 use Rattle.circuit_list.proofs.Circuit.before.Goals as goal
@@ -22,7 +22,7 @@ returns-in_err-slot c = record {
       subst (λ (o : Option ℕ). MatchOption o (place_of c.args.s c.args.self.now.slots ≡ 0)
       (λ t. IsLive c.args.self.now t × (place_of t c.args.self.now.slots + 1 ≡ place_of c.args.s c.args.self.now.slots))) (sym c.from_residual.ensures)
       (subst (λ (b : Body). place_of c.args.s b.slots ≡ 0) c.self.view_is
-      (before-none c.self.inside.tree c.args.s l.0 l.1 (subst (λ n. NoneOn any_wire c.self.inside.tree 0 n) c.index.ensures.value c.in_err-slot.ensures.found)));
+      (before-none c.self.inside.tree c.args.s l.0 l.1 (subst (λ n. NoSlotOn any_wire c.self.inside.tree 0 n) c.index.ensures.value c.in_err-slot.ensures.found)));
 }
 
 pub returns : goal.returns

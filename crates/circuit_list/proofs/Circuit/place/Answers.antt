@@ -1,6 +1,6 @@
 use Rattle.std.proofs.Common.{◌≡◌, ◌∙◌, sym, ap, subst, Some}
 use Rattle.circuit_list.specs.Body.{Body}
-use Rattle.circuit_list.specs.Entries.{entry, rank}
+use Rattle.circuit_list.specs.Entries.{entry, slot_rank}
 use Rattle.circuit_list.specs.Slots.{IsLive, place_of}
 use Rattle.circuit_list.proofs.CircuitLaws.{live_entry, place-entry}
 use Rattle.circuit_list.proofs.EntryLaws.{slot_below}
@@ -18,5 +18,5 @@ pub returns : goal.returns
 returns c = record {
   value =
       let l = live_entry c.self.inside.tree c.args.s (subst (λ (b : Body). IsLive b c.args.s) (sym c.self.view_is) c.requires.live) in
-      c.rank.ensures.value ∙ ap (rank c.self.inside.tree) c.index.ensures.value ∙ sym (place-entry c.self.inside.tree c.args.s l.0 l.1) ∙ ap (λ (b : Body). place_of c.args.s b.slots) c.self.view_is;
+      c.rank.ensures.value ∙ ap (slot_rank c.self.inside.tree) c.index.ensures.value ∙ sym (place-entry c.self.inside.tree c.args.s l.0 l.1) ∙ ap (λ (b : Body). place_of c.args.s b.slots) c.self.view_is;
 }

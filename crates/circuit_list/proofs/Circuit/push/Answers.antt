@@ -1,7 +1,7 @@
 use Rattle.std.proofs.Common.{◌≡◌, ◌∙◌, ℕ, ◌<◌, ◌++◌, ◌∷◌, [], sym, ap, subst, arith, length, List, Option, Some, OnOk, OnErr}
 use Rattle.circuit_list.specs.Body.{Body}
 use Rattle.circuit_list.specs.declared.Gate.{Gate}
-use Rattle.circuit_list.specs.Entries.{gates_of, slots_from}
+use Rattle.circuit_list.specs.Entries.{entry_gates, slots_from}
 use Rattle.circuit_list.specs.Gates.{IsFine}
 use Rattle.circuit_list.specs.Slots.{IsLive, place_of}
 use Rattle.std.proofs.lemmas.Result.{on_ok_weaker}
@@ -21,7 +21,7 @@ invariant_of-self c = (
 
 pub returns-clause-gates : goal.returns-clause-gates
 returns-clause-gates c =
-    on_ok_weaker c.push.result (λ e. ap gates_of e ∙ gates_of-push c.self.inside.tree c.args.g ∙ ap (λ (b : Body). b.gates ++ c.args.g ∷ []) c.self.view_is) c.push.ensures.ok
+    on_ok_weaker c.push.result (λ e. ap entry_gates e ∙ gates_of-push c.self.inside.tree c.args.g ∙ ap (λ (b : Body). b.gates ++ c.args.g ∷ []) c.self.view_is) c.push.ensures.ok
 
 pub returns-clause-slots : goal.returns-clause-slots
 returns-clause-slots c =
@@ -30,7 +30,7 @@ returns-clause-slots c =
     (r.0, ap (slots_from 0) e ∙ r.1 ∙ ap (λ (b : Body). b.slots ++ r.0 ∷ []) c.self.view_is)) c.push.ensures.ok
 
 others : (es fs : List (Option Gate)) (g : Gate) (r : Result (Unit {0}) AllocError) → OnOk r (fs ≡ es ++ Some g ∷ []) → OnErr r (fs ≡ es)
-    → (t : ℕ) → place_of t (slots_from 0 es) < length (gates_of es) → place_of t (slots_from 0 fs) ≡ place_of t (slots_from 0 es)
+    → (t : ℕ) → place_of t (slots_from 0 es) < length (entry_gates es) → place_of t (slots_from 0 fs) ≡ place_of t (slots_from 0 es)
 others es fs g (Ok u) ok err t live =
     let r = slots_from-push 0 es g in
     let below : place_of t (slots_from 0 es) < length (slots_from 0 es) = omega (arith, length-slots_from 0 es) in

@@ -1,7 +1,7 @@
 use Rattle.std.specs.List.{remove}
 use Rattle.std.proofs.Common.{◌≡◌, ◌∙◌, ◌+◌, sym, ap, subst, Some}
 use Rattle.circuit_list.specs.Body.{Body}
-use Rattle.circuit_list.specs.Entries.{entry, gates_of, rank, slots_from}
+use Rattle.circuit_list.specs.Entries.{entry, entry_gates, slot_rank, slots_from}
 use Rattle.circuit_list.specs.Slots.{IsLive, place_of}
 use Rattle.circuit_list.proofs.CircuitLaws.{live_entry, place-entry, gone-fine}
 use Rattle.circuit_list.proofs.EntryLaws.{gates_of-gone, slots_from-gone, slot_below}
@@ -26,16 +26,16 @@ pub returns-clause-gates : goal.returns-clause-gates
 returns-clause-gates c =
     let l = live_entry c.self.inside.tree c.args.s (subst (λ (b : Body). IsLive b c.args.s) (sym c.self.view_is) c.requires.live) in
     let here : entry c.self.inside.tree c.index.result ≡ Some l.0 = ap (entry c.self.inside.tree) c.index.ensures.value ∙ l.1 in
-    let place : rank c.self.inside.tree c.index.result ≡ place_of c.args.s c.args.self.now.slots =
-    ap (rank c.self.inside.tree) c.index.ensures.value ∙ sym (place-entry c.self.inside.tree c.args.s l.0 l.1) ∙ ap (λ (b : Body). place_of c.args.s b.slots) c.self.view_is in
-    ap gates_of c.set.ensures.new ∙ gates_of-gone c.self.inside.tree c.index.result l.0 here ∙ (λ i. remove (ap (λ (b : Body). b.gates) c.self.view_is i) (place i))
+    let place : slot_rank c.self.inside.tree c.index.result ≡ place_of c.args.s c.args.self.now.slots =
+    ap (slot_rank c.self.inside.tree) c.index.ensures.value ∙ sym (place-entry c.self.inside.tree c.args.s l.0 l.1) ∙ ap (λ (b : Body). place_of c.args.s b.slots) c.self.view_is in
+    ap entry_gates c.set.ensures.new ∙ gates_of-gone c.self.inside.tree c.index.result l.0 here ∙ (λ i. remove (ap (λ (b : Body). b.gates) c.self.view_is i) (place i))
 
 slots_gone : goal.returns-clause-slots
 slots_gone c =
     let l = live_entry c.self.inside.tree c.args.s (subst (λ (b : Body). IsLive b c.args.s) (sym c.self.view_is) c.requires.live) in
     let here : entry c.self.inside.tree c.index.result ≡ Some l.0 = ap (entry c.self.inside.tree) c.index.ensures.value ∙ l.1 in
-    let place : rank c.self.inside.tree c.index.result ≡ place_of c.args.s c.args.self.now.slots =
-    ap (rank c.self.inside.tree) c.index.ensures.value ∙ sym (place-entry c.self.inside.tree c.args.s l.0 l.1) ∙ ap (λ (b : Body). place_of c.args.s b.slots) c.self.view_is in
+    let place : slot_rank c.self.inside.tree c.index.result ≡ place_of c.args.s c.args.self.now.slots =
+    ap (slot_rank c.self.inside.tree) c.index.ensures.value ∙ sym (place-entry c.self.inside.tree c.args.s l.0 l.1) ∙ ap (λ (b : Body). place_of c.args.s b.slots) c.self.view_is in
     ap (slots_from 0) c.set.ensures.new ∙ slots_from-gone 0 c.self.inside.tree c.index.result l.0 here ∙ (λ i. remove (ap (λ (b : Body). b.slots) c.self.view_is i) (place i))
 
 pub returns-clause-slots : goal.returns-clause-slots

@@ -2,7 +2,7 @@
 use Rattle.std.proofs.Common.{◌≤◌, ◌<◌, ◌%◌, ◌∙◌, All, None, ap, length, map, refl, subst, sym}
 use Rattle.std.proofs.lemmas.Slice.Zip.{AllZip-long}
 use Rattle.unitary_model.specs.Placement.{identity}
-use Rattle.circuit_target.specs.InParts.{placed_bars, told_parts}
+use Rattle.circuit_target.specs.InParts.{placed_barriers, told_parts}
 use Rattle.circuit_target.specs.Making.{IsAssembled, IsOnSize, IsPlacedPart, parts_of, turns_of}
 use Rattle.circuit_target.specs.declared.target.Target.{Target}
 use Rattle.circuit_target.proofs.MadeLaws.{IsFit-placed, Stands-placed, sizes-placed, turns-placed, wide-placed}
@@ -59,7 +59,7 @@ returns c =
     let made : IsAssembled c.args.keep s c.in_ok-made.made.items t = record {
       gates = c.in_ok-body_of.ensures.gates;
       lengths = c.in_ok-lengths_of.ensures.ok ∙ ap (map (λ m. length m.body.gates)) c.deref.ensures.value;
-      bars = c.in_ok-placed_bars.ensures.ok ∙ ap (λ ns. placed_bars (parts_of s.cut.parts ns) s.cut.bars) c.deref-2.ensures.value;
+      bars = c.in_ok-placed_bars.ensures.ok ∙ ap (λ ns. placed_barriers (parts_of s.cut.parts ns) s.cut.bars) c.deref-2.ensures.value;
       turn = c.turn_of.ensures.sum ∙ ap (λ ns. turns_of ns % 8) c.deref-3.ensures.value;
       tells = c.in_ok-told_parts.ensures.ok ∙ ap (λ ns. told_parts c.args.keep (parts_of s.cut.parts ns)) c.deref-4.ensures.value;
     } in

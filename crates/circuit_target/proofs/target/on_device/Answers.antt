@@ -2,7 +2,7 @@
 use Rattle.std.proofs.Common.{◌≡◌, ◌≤◌, ◌<◌, ◌%◌, ◌∙◌, All, None, ap, arith, length, map, refl, subst, sym}
 use Rattle.std.specs.Prelude.{sum_by}
 use Rattle.unitary_model.specs.Operations.{cx_count}
-use Rattle.circuit_target.specs.InParts.{placed_bars, told_parts}
+use Rattle.circuit_target.specs.InParts.{placed_barriers, told_parts}
 use Rattle.circuit_target.specs.Making.{IsAssembled, IsOnSize, parts_of, turns_of}
 use Rattle.circuit_target.specs.declared.parts.PartTarget.{PartTarget}
 use Rattle.circuit_target.specs.declared.target.Target.{Target}
@@ -152,7 +152,7 @@ returns g c =
     let made : IsAssembled c.args.keep s ms t = record {
       gates = c.in_ok-body.ensures.gates;
       lengths = c.in_ok-lengths.ensures.ok ∙ ap (map (λ m. length m.body.gates)) c.deref.ensures.value;
-      bars = c.in_ok-barriers.ensures.ok ∙ ap (λ ns. placed_bars (parts_of s.cut.parts ns) s.cut.bars) c.deref-2.ensures.value;
+      bars = c.in_ok-barriers.ensures.ok ∙ ap (λ ns. placed_barriers (parts_of s.cut.parts ns) s.cut.bars) c.deref-2.ensures.value;
       turn = c.turn_of-turn.ensures.sum ∙ ap (λ ns. turns_of ns % 8) c.deref-4.ensures.value;
       tells = c.in_ok-parts.ensures.ok ∙ ap (λ ns. told_parts c.args.keep (parts_of s.cut.parts ns)) c.deref-5.ensures.value;
     } in

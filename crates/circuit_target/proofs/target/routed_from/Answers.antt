@@ -1,6 +1,6 @@
 -- What is written is what is left of the runs that are taken.
 use Rattle.std.proofs.Common.{◌∙◌, subst, sym}
-use Rattle.circuit_target.specs.Making.{gates_of}
+use Rattle.circuit_target.specs.Making.{part_gates}
 use Rattle.circuit_target.specs.Trying.{HasBegun, IsRoute}
 use Rattle.circuit_target.proofs.TryingLaws.{chained}
 use Rattle.circuit_target.proofs.target.routed_from.Goals as goal
@@ -17,5 +17,5 @@ returns-clause-routed g c =
     subst (λ p. IsRoute d c.args.starts c.args.clean ws p c.in_ok-legs.legs.made.items) (sym c.in_ok-initial.ensures.ok)
     (record {
       written = w.0;
-      begun = subst (λ x. HasBegun d c.args.starts (gates_of ws) b.placement x) (sym (w.1 ∙ same)) c.in_ok-placement.ensures.begun;
+      begun = subst (λ x. HasBegun d c.args.starts (part_gates ws) b.placement x) (sym (w.1 ∙ same)) c.in_ok-placement.ensures.begun;
     })

@@ -4,7 +4,7 @@ use Rattle.std.proofs.lemmas.List.{length-append}
 use Rattle.program_parts.specs.Cuts.{whole}
 use Rattle.routed_parts.specs.Tries.{ahead_of}
 use Rattle.sabre_route.specs.Ahead.{IsLookoutOver}
-use Rattle.circuit_target.specs.Making.{AreTraced, gates_of, last_of}
+use Rattle.circuit_target.specs.Making.{AreTraced, part_gates, last_of}
 use Rattle.circuit_target.specs.Trying.{IsLookingOver}
 use Rattle.circuit_target.proofs.PartLaws.{AreTraced-more, at_place, last_of-more, take-next, trace-first}
 use Rattle.circuit_target.proofs.TryingLaws.{PartsBefore, gates-part, looking-on, looking-over, parts-all, parts-more}
@@ -33,7 +33,7 @@ routed_part-requires-clause-seen g c =
     let ws = c.args.rewritten.now in
     let i = c.parts.part-index in
     let part = c.part-item.result in
-    let left = whole (gates_of (drop (i + 1) ws)) in
+    let left = whole (part_gates (drop (i + 1) ws)) in
     let gates = gates-part ws i part c.parts-test.true c.part-item.is in (
       ahead_of (is_some c.parts.lookout) left,
       looking-over c.parts.lookout c.args.device.now.size part.passed.body.gates left
@@ -51,7 +51,7 @@ parts-preserved g c =
     let e = c.in_ok-leg.ensures in
     let inv = c.parts.invariant in
     let along = is_some c.args.lookout.now in
-    let left = whole (gates_of (drop (i + 1) ws)) in
+    let left = whole (part_gates (drop (i + 1) ws)) in
     let gates = gates-part ws i w c.parts-test.true c.part-item.is in
     let seen : IsLookoutOver (ahead_of along left) c.parts.lookout d.size w.passed.body.gates =
     subst (λ b. IsLookoutOver (ahead_of b left) c.parts.lookout d.size w.passed.body.gates) inv.same

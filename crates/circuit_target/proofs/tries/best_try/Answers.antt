@@ -1,6 +1,6 @@
 -- One try more.
 use Rattle.std.proofs.Common.{◌+◌, ◌∙◌, ap, arith, length, subst, sym}
-use Rattle.circuit_target.specs.Making.{gates_of}
+use Rattle.circuit_target.specs.Making.{part_gates}
 use Rattle.circuit_target.specs.Trying.{IsBestOf}
 use Rattle.circuit_target.proofs.TryingLaws.{IsBestOf-again, IsBestOf-first, IsBestOf-kept, IsBestOf-next, IsBestOf-nothing}
 use Rattle.circuit_target.proofs.tries.best_try.Goals as goal
@@ -9,7 +9,7 @@ use Rattle.circuit_target.proofs.tries.best_try.Goals.{then-next-best, else-next
 pub tries-init : goal.tries-init
 tries-init c =
     let d = c.args.device.now in
-    let lists = gates_of c.args.rewritten.now in
+    let lists = part_gates c.args.rewritten.now in
     let b = c.in_ok-best.best in
     let e = c.in_ok-best.ensures in
     record {
@@ -22,7 +22,7 @@ tries-init c =
 pub tries-preserved : goal.tries-preserved
 tries-preserved c =
     let d = c.args.device.now in
-    let lists = gates_of c.args.rewritten.now in
+    let lists = part_gates c.args.rewritten.now in
     let n = c.tries.number in
     let b = c.tries.best in
     let x = c.in_ok-next.next in
@@ -55,13 +55,13 @@ returns-then-best-eq0-clause-best c =
     let inv = c.tries.invariant in
     let made = c.made_of-made.ensures.within in
     let within = inv.within in
-    IsBestOf-nothing c.args.device.now (gates_of c.args.rewritten.now) c.tries.number c.args.tries b.number b.layout b.expense
+    IsBestOf-nothing c.args.device.now (part_gates c.args.rewritten.now) c.tries.number c.args.tries b.number b.layout b.expense
     (omega (arith, within, made)) inv.best c.if-best-eq0.true
 
 pub returns-clause-best : goal.returns-clause-best
 returns-clause-best c =
     let d = c.args.device.now in
-    let lists = gates_of c.args.rewritten.now in
+    let lists = part_gates c.args.rewritten.now in
     let b = c.tries.best in
     let end = c.tries-test.false in
     let within = c.tries.invariant.within in

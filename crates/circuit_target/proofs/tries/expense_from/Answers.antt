@@ -3,8 +3,8 @@ use Rattle.std.proofs.Common.{◌+◌, ◌++◌, ◌∷◌, ◌∙◌, [], arith
 use Rattle.program_parts.specs.Cuts.{whole}
 use Rattle.routed_parts.specs.Tries.{ahead_of}
 use Rattle.sabre_route.specs.Ahead.{IsLookoutOver}
-use Rattle.sabre_route.specs.Measures.{bound}
-use Rattle.circuit_target.specs.Making.{gates_of}
+use Rattle.sabre_route.specs.Measures.{swap_bound}
+use Rattle.circuit_target.specs.Making.{part_gates}
 use Rattle.circuit_target.specs.Trying.{IsLookingOver}
 use Rattle.circuit_target.proofs.MadeLaws.{bound-few}
 use Rattle.circuit_target.proofs.TryingLaws.{cx-part, gates-part, looking-on, looking-over, run-expense, runs-all, runs-more, expense-more, expense-nothing}
@@ -29,7 +29,7 @@ route-requires-clause-seen c =
     let ws = c.args.rewritten.now in
     let i = c.parts.part-index in
     let part = c.part-item.result in
-    let left = whole (gates_of (drop (i + 1) ws)) in
+    let left = whole (part_gates (drop (i + 1) ws)) in
     let gates = gates-part ws i part c.parts-test.true c.part-item.is in (
       ahead_of (is_some c.parts.lookout) left,
       looking-over c.parts.lookout c.args.device.now.size part.passed.body.gates left
@@ -41,7 +41,7 @@ expense_of-sum-requires-clause-cx_limit c =
     let d = c.args.device.now in
     let k = c.diameter-diameter.result in
     let e = c.in_ok-routed.ensures in
-    let w = run-expense c.part-item.result.passed.body.gates c.in_ok-routed.routed (bound d k)
+    let w = run-expense c.part-item.result.passed.body.gates c.in_ok-routed.routed (swap_bound d k)
     (bound-few d.costs d.size k c.facts.ensures.coupling.graph.limited c.diameter-diameter.ensures.hops_limit)
     e.cx_count (e.few_swaps k c.diameter-diameter.ensures.diameter) in
     let cx = cx-part c.args.rewritten.now c.parts.part-index c.part-item.result c.parts-test.true c.part-item.is in
@@ -52,7 +52,7 @@ overflow_add-sum c =
     let d = c.args.device.now in
     let k = c.diameter-diameter.result in
     let e = c.in_ok-routed.ensures in
-    let w = run-expense c.part-item.result.passed.body.gates c.in_ok-routed.routed (bound d k)
+    let w = run-expense c.part-item.result.passed.body.gates c.in_ok-routed.routed (swap_bound d k)
     (bound-few d.costs d.size k c.facts.ensures.coupling.graph.limited c.diameter-diameter.ensures.hops_limit)
     e.cx_count (e.few_swaps k c.diameter-diameter.ensures.diameter) in
     let cx = cx-part c.args.rewritten.now c.parts.part-index c.part-item.result c.parts-test.true c.part-item.is in
@@ -64,7 +64,7 @@ parts-preserved c =
     let ws = c.args.rewritten.now in
     let i = c.parts.part-index in
     let part = c.part-item.result in
-    let left = whole (gates_of (drop (i + 1) ws)) in
+    let left = whole (part_gates (drop (i + 1) ws)) in
     let along = is_some c.args.lookout.now in
     let inv = c.parts.invariant in
     let r = c.in_ok-routed.routed in
@@ -76,7 +76,7 @@ parts-preserved c =
     let ran = e.run (ahead_of along left) seen in
     let on = looking-on along c.route.new.lookout d.size left ran.1 in
     let k = c.diameter-diameter.result in
-    let w = run-expense part.passed.body.gates r (bound d k)
+    let w = run-expense part.passed.body.gates r (swap_bound d k)
     (bound-few d.costs d.size k c.facts.ensures.coupling.graph.limited c.diameter-diameter.ensures.hops_limit)
     e.cx_count (e.few_swaps k c.diameter-diameter.ensures.diameter) in
     let cx = cx-part ws i part c.parts-test.true c.part-item.is in

@@ -2,7 +2,7 @@
 use Rattle.std.proofs.Common.{[], subst}
 use Rattle.routed_parts.specs.Tries.{AreRouted, ahead_of, is_along}
 use Rattle.sabre_route.specs.Routing.{IsLayout}
-use Rattle.circuit_target.specs.Making.{gates_of}
+use Rattle.circuit_target.specs.Making.{part_gates}
 use Rattle.circuit_target.specs.Trying.{IsLookingOver}
 use Rattle.circuit_target.proofs.TryingLaws.{chained}
 use Rattle.circuit_target.proofs.tries.make_try.Goals as goal
@@ -17,7 +17,7 @@ expense_from-requires-clause-seen c =
 pub returns-clause-tried : goal.returns-clause-tried
 returns-clause-tried c =
     let d = c.args.device.now in
-    let lists = gates_of c.args.rewritten.now in
+    let lists = part_gates c.args.rewritten.now in
     let odd = is_along c.args.number in
     let e = c.in_ok-lookout.ensures in
     let looking = chained odd c.in_ok-lookout.lookout c.args.chains.now.out c.args.body.now.wires d.size

@@ -1,7 +1,7 @@
 -- The line's angles have their forms.
 use Rattle.std.proofs.Common.{List, ap, map, sym, subst, ◌∙◌}
 use Rattle.gate_library.specs.Gates.{Formula}
-use Rattle.gate_library.specs.Views.{formula as formula_view, item as item_view}
+use Rattle.gate_library.specs.Views.{formula_view, item_view}
 use Rattle.linear_forms.specs.Lines.{AreForms, angles_in}
 use Rattle.gate_inline.proofs.body.call_of.Goals as goal
 

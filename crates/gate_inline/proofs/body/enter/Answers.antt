@@ -2,9 +2,9 @@
 use Rattle.std.proofs.Common.{ℕ, List, [], map, sym, ap, ◌∙◌, arith, Some, Ok, refl, subst}
 use Rattle.angle_fraction.specs.declared.Angle.{Angle}
 use Rattle.gate_library.specs.Gates.{u, cx, opaque, composed}
-use Rattle.gate_library.specs.Views.{gate as gate_view, item as item_view}
+use Rattle.gate_library.specs.Views.{gate_view, item_view}
 use Rattle.gate_inline.specs.Meanings.{Meaning, controlled, one_op, rotation}
-use Rattle.gate_inline.specs.Stops.{IsStop}
+use Rattle.gate_inline.specs.Stops.{IsInlineStop}
 use Rattle.gate_inline.proofs.FrameLaws.{called_op, called_stop, called_body, called_none, called_size, called_size_none, called_room}
 use Rattle.gate_inline.proofs.KeptLaws.{meaning_at-called}
 use Rattle.gate_inline.proofs.LineLaws.{lines_there, number_there}
@@ -26,8 +26,8 @@ pub returns-in-Some-U-clause-err : goal.returns-in-Some-U-clause-err
 returns-in-Some-U-clause-err c =
     called_stop (map gate_view c.args.gates.now) c.args.below c.args.call.gate u c.args.call.angles.items c.args.call.wires.items c.in-Err.stop
     (sym c.in-Some-U.ensures.gate ∙ ap (λ g. Some (gate_view g)) c.in-Some-U.field-0-is)
-    (subst (λ (angles : List Angle). IsStop (rotation angles c.args.call.wires.items) c.in-Err.stop) c.deref.ensures.value
-    (subst (λ (wires : List ℕ). IsStop (rotation c.deref.result.now wires) c.in-Err.stop) c.deref-in-Some-U.ensures.value c.in-Err.ensures.err))
+    (subst (λ (angles : List Angle). IsInlineStop (rotation angles c.args.call.wires.items) c.in-Err.stop) c.deref.ensures.value
+    (subst (λ (wires : List ℕ). IsInlineStop (rotation c.deref.result.now wires) c.in-Err.stop) c.deref-in-Some-U.ensures.value c.in-Err.ensures.err))
 
 pub returns-in-Some-Cx-clause-ok : goal.returns-in-Some-Cx-clause-ok
 returns-in-Some-Cx-clause-ok c =

@@ -3,18 +3,18 @@ use Rattle.std.proofs.Common.{◌≡◌, ℕ, suc, ◌≤◌, All, List, [], ari
 use Rattle.std.proofs.lemmas.List.{length-map}
 use Rattle.std.proofs.lemmas.Result.{IfErr-weaker, IfOk-weaker}
 use Rattle.qasm_check.specs.Bound.{Bound}
-use Rattle.qasm_check.specs.CheckedView.{program}
+use Rattle.qasm_check.specs.CheckedView.{program_view}
 use Rattle.qasm_check.specs.Sound.{IsSound}
-use Rattle.qasm_check.specs.StepViews.{step as step_view}
-use Rattle.qasm_check.specs.Steps.{Step}
-use Rattle.gate_library.specs.Views.{gate as gate_view}
+use Rattle.qasm_check.specs.StepViews.{step_view}
+use Rattle.qasm_check.specs.Steps.{BoundStep}
+use Rattle.gate_library.specs.Views.{gate_view}
 use Rattle.gate_expand.specs.Expansion.{IsFineOp}
 use Rattle.gate_expand.specs.declared.source.Ops.{Ops}
 use Rattle.gate_inline.specs.Inlined.{IsInlineFault, IsInlined}
 use Rattle.gate_inline.specs.Parting.{IsOnWires}
 use Rattle.gate_inline.specs.Registers.{IsRead}
 use Rattle.gate_inline.specs.Sizes.{most_operations}
-use Rattle.gate_inline.specs.Splits.{IsBar, IsSplit, bar_of, cut_of, named_once, once}
+use Rattle.gate_inline.specs.Splits.{IsBarrier, IsSplit, barrier_wires, cut_of, named_once, once}
 use Rattle.gate_inline.specs.declared.split.Split.{Split}
 use Rattle.gate_inline.proofs.BarLaws.{bars-fine}
 use Rattle.gate_inline.proofs.CutLaws.{bars-named, cut-lengths, parts-fine, silent, split-inlined}
@@ -47,60 +47,60 @@ read : (b : Bound) (s : Split) → IsSound b → IsSplit b s → All (IsRead s.w
 unfolding joined
 read b s sound h = inlined_reads b (joined s) sound (one_list b s h)
 
-named : (b : Bound) (s : Split) → IsSound b → IsSplit b s → All (IsBar s.wires) (cut_of s).bars
+named : (b : Bound) (s : Split) → IsSound b → IsSplit b s → All (IsBarrier s.wires) (cut_of s).bars
 named b s sound h =
-    subst (λ n. All (IsBar n) (cut_of s).bars) (sym h.wires)
-    (subst (λ (bars : List (List ℕ)). All (IsBar b.wires) bars) (sym (bars-named b.gates b.steps (cut_of s) h.cut.0 h.cut.1 h.cut.2))
+    subst (λ n. All (IsBarrier n) (cut_of s).bars) (sym h.wires)
+    (subst (λ (bars : List (List ℕ)). All (IsBarrier b.wires) bars) (sym (bars-named b.gates b.steps (cut_of s) h.cut.0 h.cut.1 h.cut.2))
     (bars-fine b.wires b.steps (steps_on b.gates b.wires b.bits b.steps sound.steps)))
 
 one_fewer : (b : Bound) (s : Split) → IsSplit b s → IsCut (cut_of s)
 one_fewer b s h =
-    let cut : IsCut (named_once h.cut.0) = cut-lengths b.gates bar_of (silent b.gates) b.steps h.cut.0 h.cut.1
+    let cut : IsCut (named_once h.cut.0) = cut-lengths b.gates barrier_wires (silent b.gates) b.steps h.cut.0 h.cut.1
     ∙ ap suc (sym (length-map h.cut.0.bars (once []))) in
     subst (λ (c : Cut Op). IsCut c) (sym h.cut.2) cut
 
 pub returns-clause-ok : goal.returns-clause-ok
 returns-clause-ok c =
-    IfOk-weaker c.split_out.result _ (IsSplit (program c.args.checked.now))
-    (λ s h. split_same _ (program c.args.checked.now) s c.gates.ensures.value c.steps.ensures.value c.wires.ensures.value c.bits.ensures.value h) c.split_out.ensures.ok
+    IfOk-weaker c.split_out.result _ (IsSplit (program_view c.args.checked.now))
+    (λ s h. split_same _ (program_view c.args.checked.now) s c.gates.ensures.value c.steps.ensures.value c.wires.ensures.value c.bits.ensures.value h) c.split_out.ensures.ok
 
 pub returns-clause-cut : goal.returns-clause-cut
 returns-clause-cut c =
-    IfOk-weaker c.split_out.result (IsSplit (program c.args.checked.now)) (λ s. IsCut (cut_of s))
-    (λ s h. one_fewer (program c.args.checked.now) s h) (returns-clause-ok c)
+    IfOk-weaker c.split_out.result (IsSplit (program_view c.args.checked.now)) (λ s. IsCut (cut_of s))
+    (λ s h. one_fewer (program_view c.args.checked.now) s h) (returns-clause-ok c)
 
 pub returns-clause-operations_limit : goal.returns-clause-operations_limit
 returns-clause-operations_limit c =
-    IfOk-weaker c.split_out.result (IsSplit (program c.args.checked.now)) (λ s. length (whole (cut_of s).parts) ≤ most_operations)
-    (λ s h. short (program c.args.checked.now) s h) (returns-clause-ok c)
+    IfOk-weaker c.split_out.result (IsSplit (program_view c.args.checked.now)) (λ s. length (whole (cut_of s).parts) ≤ most_operations)
+    (λ s h. short (program_view c.args.checked.now) s h) (returns-clause-ok c)
 
 pub returns-clause-wires_limit : goal.returns-clause-wires_limit
 returns-clause-wires_limit c =
-    IfOk-weaker c.split_out.result (IsSplit (program c.args.checked.now)) (λ s. s.wires ≤ most_qubits)
-    (λ s h. let sound : IsSound (program c.args.checked.now) = c.args.checked.now.sound in
-    let w : (program c.args.checked.now).wires ≤ most_qubits = sound.wires in
-    let e : s.wires ≡ (program c.args.checked.now).wires = h.wires in
+    IfOk-weaker c.split_out.result (IsSplit (program_view c.args.checked.now)) (λ s. s.wires ≤ most_qubits)
+    (λ s h. let sound : IsSound (program_view c.args.checked.now) = c.args.checked.now.sound in
+    let w : (program_view c.args.checked.now).wires ≤ most_qubits = sound.wires in
+    let e : s.wires ≡ (program_view c.args.checked.now).wires = h.wires in
     omega (arith, w, e)) (returns-clause-ok c)
 
 pub returns-clause-fine : goal.returns-clause-fine
 returns-clause-fine c =
-    IfOk-weaker c.split_out.result (IsSplit (program c.args.checked.now)) (λ s. All (All (IsFineOp s.wires)) (cut_of s).parts)
-    (λ s h. fine (program c.args.checked.now) s c.args.checked.now.sound h) (returns-clause-ok c)
+    IfOk-weaker c.split_out.result (IsSplit (program_view c.args.checked.now)) (λ s. All (All (IsFineOp s.wires)) (cut_of s).parts)
+    (λ s h. fine (program_view c.args.checked.now) s c.args.checked.now.sound h) (returns-clause-ok c)
 
 pub returns-clause-bars : goal.returns-clause-bars
 returns-clause-bars c =
-    IfOk-weaker c.split_out.result (IsSplit (program c.args.checked.now)) (λ s. All (IsBar s.wires) (cut_of s).bars)
-    (λ s h. named (program c.args.checked.now) s c.args.checked.now.sound h) (returns-clause-ok c)
+    IfOk-weaker c.split_out.result (IsSplit (program_view c.args.checked.now)) (λ s. All (IsBarrier s.wires) (cut_of s).bars)
+    (λ s h. named (program_view c.args.checked.now) s c.args.checked.now.sound h) (returns-clause-ok c)
 
 pub returns-clause-bits : goal.returns-clause-bits
 returns-clause-bits c =
-    IfOk-weaker c.split_out.result (IsSplit (program c.args.checked.now)) (λ s. length s.reads.items ≡ (program c.args.checked.now).bits)
-    (λ s h. ap length h.reads ∙ length-reads (program c.args.checked.now).bits (program c.args.checked.now).steps) (returns-clause-ok c)
+    IfOk-weaker c.split_out.result (IsSplit (program_view c.args.checked.now)) (λ s. length s.reads.items ≡ (program_view c.args.checked.now).bits)
+    (λ s h. ap length h.reads ∙ length-reads (program_view c.args.checked.now).bits (program_view c.args.checked.now).steps) (returns-clause-ok c)
 
 pub returns-clause-reads : goal.returns-clause-reads
 returns-clause-reads c =
-    IfOk-weaker c.split_out.result (IsSplit (program c.args.checked.now)) (λ s. All (IsRead s.wires) s.reads.items)
-    (λ s h. read (program c.args.checked.now) s c.args.checked.now.sound h) (returns-clause-ok c)
+    IfOk-weaker c.split_out.result (IsSplit (program_view c.args.checked.now)) (λ s. All (IsRead s.wires) s.reads.items)
+    (λ s h. read (program_view c.args.checked.now) s c.args.checked.now.sound h) (returns-clause-ok c)
 
 pub returns-clause-err : goal.returns-clause-err
 returns-clause-err c =
@@ -111,17 +111,17 @@ returns-clause-err c =
       bits = c.bits.result;
       registers = [];
     } in
-    IfErr-weaker c.split_out.result (IsInlineFault b) (IsInlineFault (program c.args.checked.now))
-    (λ f h. fault_same b (program c.args.checked.now) f c.gates.ensures.value c.steps.ensures.value h) c.split_out.ensures.err
+    IfErr-weaker c.split_out.result (IsInlineFault b) (IsInlineFault (program_view c.args.checked.now))
+    (λ f h. fault_same b (program_view c.args.checked.now) f c.gates.ensures.value c.steps.ensures.value h) c.split_out.ensures.err
 
 pub split_out-requires-clause-placed : goal.split_out-requires-clause-placed
 split_out-requires-clause-placed c =
-    placed_within (program c.args.checked.now) (map step_view c.steps.result.now) c.bits.result c.args.checked.now.sound c.steps.ensures.value c.bits.ensures.value
+    placed_within (program_view c.args.checked.now) (map step_view c.steps.result.now) c.bits.result c.args.checked.now.sound c.steps.ensures.value c.bits.ensures.value
 
 pub split_out-requires-clause-on_wires : goal.split_out-requires-clause-on_wires
 split_out-requires-clause-on_wires c =
-    let b : Bound = program c.args.checked.now in
+    let b : Bound = program_view c.args.checked.now in
     let sound : IsSound b = c.args.checked.now.sound in
     let on : All (IsOnWires b.wires) b.steps = steps_on b.gates b.wires b.bits b.steps sound.steps in
     let here : All (IsOnWires c.wires.result) b.steps = subst (λ n. All (IsOnWires n) b.steps) (sym c.wires.ensures.value) on in
-    subst (λ (steps : List Step). All (IsOnWires c.wires.result) steps) (sym c.steps.ensures.value) here
+    subst (λ (steps : List BoundStep). All (IsOnWires c.wires.result) steps) (sym c.steps.ensures.value) here

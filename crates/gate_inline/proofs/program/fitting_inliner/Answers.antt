@@ -1,7 +1,7 @@
 -- Not too much, or the first step with which there is.
 use Rattle.std.proofs.Common.{map, ◌∙◌}
-use Rattle.qasm_check.specs.StepViews.{step as step_view}
-use Rattle.gate_library.specs.Views.{gate as gate_view}
+use Rattle.qasm_check.specs.StepViews.{step_view}
+use Rattle.gate_library.specs.Views.{gate_view}
 use Rattle.gate_inline.proofs.StepLaws.{not_too_much, too_many}
 use Rattle.gate_inline.proofs.program.fitting_inliner.Goals as goal
 

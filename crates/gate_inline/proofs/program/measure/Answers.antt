@@ -2,7 +2,7 @@
 use Rattle.std.proofs.Common.{◌<◌, None, Some, length, get_or, sym, ap, ◌∙◌, arith}
 use Rattle.std.specs.Option.{option_or}
 use Rattle.std.proofs.Math.ListN.{set}
-use Rattle.gate_library.specs.Operands.{times, wire_at}
+use Rattle.gate_library.specs.Operands.{wire_number, wire_at}
 use Rattle.gate_inline.proofs.ReadLaws.{measured_next, read_within-zero}
 use Rattle.gate_inline.proofs.program.measure.Goals as goal
 
@@ -11,7 +11,7 @@ wires-init c = λ x l. sym (ap (λ o. option_or o (get_or c.args.list.now x None
 
 pub wires-preserved : goal.wires-preserved
 wires-preserved c = λ x l.
-    let within : c.wires.j < times c.args.bit.now = omega arith in
+    let within : c.wires.j < wire_number c.args.bit.now = omega arith in
     let placed = (c.requires.placed c.wires.j within).1 in
     let there : wire_at c.wires.j c.args.bit.now < length c.wires.list = omega (arith, placed, c.wires.auto.list) in
     (λ i. get_or (set c.wires.list (c.wire_at-place.ensures.value i) (Some (c.wire_at-wire.ensures.value i))) x None)

@@ -1,14 +1,14 @@
 -- One more step, or the first that isn't exact.
 use Rattle.std.proofs.Common.{List, Ok, map, refl, sym, subst, ap, ◌∙◌, arith}
-use Rattle.qasm_check.specs.StepViews.{step as step_view}
+use Rattle.qasm_check.specs.StepViews.{step_view}
 use Rattle.gate_library.specs.Gates.{BoundGate}
-use Rattle.gate_library.specs.Views.{gate as gate_view}
+use Rattle.gate_library.specs.Views.{gate_view}
 use Rattle.unitary_model.specs.declared.Op.{Op}
-use Rattle.gate_inline.specs.Inlined.{IsUnwritten}
+use Rattle.gate_inline.specs.Inlined.{IsUnwrittenFault}
 use Rattle.gate_inline.specs.Meanings.{meanings, step_answer}
 use Rattle.gate_inline.specs.Placed.{IsPlaced}
-use Rattle.gate_inline.specs.Progress.{HasWritten, gates_of}
-use Rattle.gate_inline.specs.Stops.{IsStop}
+use Rattle.gate_inline.specs.Progress.{AppendsAnswer, gate_views}
+use Rattle.gate_inline.specs.Stops.{IsInlineStop}
 use Rattle.gate_inline.specs.declared.program.Unwritten.{Unwritten}
 use Rattle.gate_inline.proofs.ReadLaws.{holds_at}
 use Rattle.gate_inline.proofs.StepLaws.{more_operations, stopped_unwritten}
@@ -24,16 +24,16 @@ write_step-requires c = record {
 
 pub returns-in-Err-clause-err : goal.returns-in-Err-clause-err
 returns-in-Err-clause-err c =
-    let gs = gates_of c.args.inliner in
-    let stop = subst (λ (xs : List BoundGate). IsStop (step_answer (meanings xs) (step_view c.index-steps-i.result)) c.in-Err.stop) (ap (map gate_view) c.steps.invariant.gates) c.in-Err.ensures.err in
-    subst (λ (u : Unwritten). IsUnwritten gs (map step_view c.args.steps.now) u) (sym c.at_statement.ensures.value)
+    let gs = gate_views c.args.inliner in
+    let stop = subst (λ (xs : List BoundGate). IsInlineStop (step_answer (meanings xs) (step_view c.index-steps-i.result)) c.in-Err.stop) (ap (map gate_view) c.steps.invariant.gates) c.in-Err.ensures.err in
+    subst (λ (u : Unwritten). IsUnwrittenFault gs (map step_view c.args.steps.now) u) (sym c.at_statement.ensures.value)
     (stopped_unwritten step_view gs c.args.steps.now c.steps.i c.number.result c.index-steps-i.result c.steps.inliner.list c.in-Err.stop
     (omega arith) c.index-steps-i.is c.number.ensures.value c.steps.invariant.same stop)
 
 pub steps-preserved : goal.steps-preserved
 steps-preserved c =
-    let gs = gates_of c.args.inliner in
-    let more = subst (λ (xs : List BoundGate). HasWritten c.steps.inliner (step_answer (meanings xs) (step_view c.index-steps-i.result)) c.write_step.new.self)
+    let gs = gate_views c.args.inliner in
+    let more = subst (λ (xs : List BoundGate). AppendsAnswer c.steps.inliner (step_answer (meanings xs) (step_view c.index-steps-i.result)) c.write_step.new.self)
     (ap (map gate_view) c.steps.invariant.gates) c.in-Ok.ensures.ok in
     record {
       gates = more.gates ∙ c.steps.invariant.gates;

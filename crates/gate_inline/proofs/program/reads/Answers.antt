@@ -2,7 +2,7 @@
 use Rattle.std.proofs.Common.{◌≡◌, ◌<◌, ℕ, None, drop, get_or, length, map, take, sym, subst, ap, ◌∙◌, arith}
 use Rattle.std.specs.Option.{option_or}
 use Rattle.std.proofs.lemmas.Grind.{common_steps}
-use Rattle.qasm_check.specs.StepViews.{step as step_view}
+use Rattle.qasm_check.specs.StepViews.{step_view}
 use Rattle.gate_inline.specs.Placed.{IsPlaced}
 use Rattle.gate_inline.specs.Reads.{last_read, step_read}
 use Rattle.gate_inline.proofs.ReadLaws.{holds_at, read_next, reads-listed, written_back}

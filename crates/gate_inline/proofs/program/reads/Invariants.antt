@@ -1,6 +1,6 @@
 -- The reads of the first steps.
 use Rattle.std.proofs.Common.{◌≡◌, ℕ, ◌<◌, None, length, get_or, map, take}
-use Rattle.qasm_check.specs.StepViews.{step as step_view}
+use Rattle.qasm_check.specs.StepViews.{step_view}
 use Rattle.gate_inline.specs.Reads.{last_read}
 use Rattle.gate_inline.proofs.program.reads.Given as goal
 

@@ -1,8 +1,8 @@
 -- Too much, a step that isn't exact, or the operations and reads.
 use Rattle.std.proofs.Common.{rules, map, ap, sym, ◌∙◌, Ok, refl}
-use Rattle.qasm_check.specs.StepViews.{step as step_view}
+use Rattle.qasm_check.specs.StepViews.{step_view}
 use Rattle.gate_inline.specs.Inlined.{operations}
-use Rattle.gate_inline.specs.Progress.{Progress, gates_of}
+use Rattle.gate_inline.specs.Progress.{Progress, gate_views}
 use Rattle.gate_inline.proofs.StepLaws.{unwritten_told}
 use Rattle.gate_inline.proofs.program.written_out.Goals as goal
 
@@ -21,7 +21,7 @@ returns-clause-ok c = record {
   small = c.in_ok-inliner.ensures.small;
   wires = refl;
   list =
-      ap (λ (p : Progress). operations (gates_of p) (map step_view c.args.steps.now)) (sym c.in_ok-inliner.ensures.start)
+      ap (λ (p : Progress). operations (gate_views p) (map step_view c.args.steps.now)) (sym c.in_ok-inliner.ensures.start)
       ∙ c.in-Ok.ensures.ok ∙ ap (λ l. Ok l) (sym c.new.ensures.value);
   reads = c.new-2.ensures.value ∙ c.in_ok-reads.ensures.ok;
 }

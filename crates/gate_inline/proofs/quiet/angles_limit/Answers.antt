@@ -2,7 +2,7 @@
 use Rattle.std.proofs.Common.{◌≡◌, ◌≤◌, All, List, ap, subst, map, take, arith}
 use Rattle.std.proofs.lemmas.Grind.{common_steps}
 use Rattle.gate_library.specs.Gates.{Formula}
-use Rattle.gate_library.specs.Views.{formula as formula_view}
+use Rattle.gate_library.specs.Views.{formula_view}
 use Rattle.gate_inline.specs.Quiet.{IsKeptWithin}
 use Rattle.gate_inline.proofs.QuietLaws.{kept_all, kept_more}
 use Rattle.gate_inline.proofs.SizeLaws.{next_views}

@@ -1,7 +1,7 @@
 -- The limit of the angles so far.
 use Rattle.std.proofs.Common.{◌≤◌, All, map, take}
 use Rattle.angle_fraction.specs.Fraction.{most_part}
-use Rattle.gate_library.specs.Views.{formula as formula_view}
+use Rattle.gate_library.specs.Views.{formula_view}
 use Rattle.gate_inline.specs.Quiet.{IsKeptWithin}
 use Rattle.gate_inline.proofs.quiet.angles_limit.Given as goal
 

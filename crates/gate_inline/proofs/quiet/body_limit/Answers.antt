@@ -2,7 +2,7 @@
 use Rattle.std.proofs.Common.{◌≡◌, ◌≤◌, All, List, ap, subst, map, take, arith}
 use Rattle.std.proofs.lemmas.Grind.{common_steps}
 use Rattle.gate_library.specs.Gates.{Item}
-use Rattle.gate_library.specs.Views.{item as item_view}
+use Rattle.gate_library.specs.Views.{item_view}
 use Rattle.gate_inline.specs.Meanings.{item_answer}
 use Rattle.gate_inline.specs.Quiet.{IsNothingBy}
 use Rattle.gate_inline.proofs.QuietLaws.{nothing_body, nothing_more}

@@ -1,7 +1,7 @@
 -- The limit of the lines so far.
 use Rattle.std.proofs.Common.{◌≤◌, All, map, take}
 use Rattle.angle_fraction.specs.Fraction.{most_part}
-use Rattle.gate_library.specs.Views.{item as item_view}
+use Rattle.gate_library.specs.Views.{item_view}
 use Rattle.gate_inline.specs.Meanings.{item_answer}
 use Rattle.gate_inline.specs.Quiet.{IsNothingBy}
 use Rattle.gate_inline.proofs.quiet.body_limit.Given as goal

@@ -1,6 +1,6 @@
 -- A call of a gate that has a limit.
 use Rattle.std.proofs.Common.{List, IfSome, ap, map, subst}
-use Rattle.gate_library.specs.Views.{formula as formula_view, item as item_view}
+use Rattle.gate_library.specs.Views.{formula_view, item_view}
 use Rattle.gate_library.specs.declared.formula.Formula.{Formula}
 use Rattle.gate_inline.specs.Quiet.{AreKeptWithin}
 use Rattle.gate_inline.proofs.QuietLaws.{nothing_if}

@@ -1,6 +1,6 @@
 -- One more gate.
 use Rattle.std.proofs.Common.{ℕ, List, Option, IfSome, map, subst, arith}
-use Rattle.gate_library.specs.Views.{gate as gate_view}
+use Rattle.gate_library.specs.Views.{gate_view}
 use Rattle.gate_inline.specs.Meanings.{gate_meaning}
 use Rattle.gate_inline.specs.Quiet.{IsNothingBy}
 use Rattle.gate_inline.proofs.QuietLaws.{gate_there, quiet_more}

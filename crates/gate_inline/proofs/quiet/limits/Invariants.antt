@@ -1,6 +1,6 @@
 -- The limits of the first gates.
 use Rattle.std.proofs.Common.{◌≡◌, length, map}
-use Rattle.gate_library.specs.Views.{gate as gate_view}
+use Rattle.gate_library.specs.Views.{gate_view}
 use Rattle.gate_inline.specs.Meanings.{meanings}
 use Rattle.gate_inline.specs.Quiet.{AreQuiet}
 use Rattle.gate_inline.proofs.quiet.limits.Given as goal

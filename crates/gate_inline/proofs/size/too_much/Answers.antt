@@ -1,6 +1,6 @@
 -- The sum with one more step.
 use Rattle.std.proofs.Common.{arith}
-use Rattle.qasm_check.specs.StepViews.{step as step_view}
+use Rattle.qasm_check.specs.StepViews.{step_view}
 use Rattle.gate_inline.proofs.SizeLaws.{next_steps, next_test}
 use Rattle.gate_inline.proofs.size.too_much.Goals as goal
 

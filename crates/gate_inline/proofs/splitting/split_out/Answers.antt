@@ -1,9 +1,9 @@
 -- Too much, a step that isn't exact, or the operations in parts and the reads.
 use Rattle.std.proofs.Common.{rules, map, refl, subst}
-use Rattle.qasm_check.specs.StepViews.{step as step_view}
-use Rattle.gate_library.specs.Views.{gate as gate_view}
+use Rattle.qasm_check.specs.StepViews.{step_view}
+use Rattle.gate_library.specs.Views.{gate_view}
 use Rattle.gate_inline.specs.Parting.{cut_in, named_of}
-use Rattle.gate_inline.specs.Progress.{Progress, gates_of}
+use Rattle.gate_inline.specs.Progress.{Progress, gate_views}
 use Rattle.gate_inline.specs.Splits.{IsCutBy}
 use Rattle.gate_inline.proofs.CutLaws.{cut-named}
 use Rattle.gate_inline.proofs.StepLaws.{unwritten_told}
@@ -25,6 +25,6 @@ returns-clause-ok c = record {
   wires = refl;
   cut =
       cut-named (map gate_view c.args.gates.now) (map step_view c.args.steps.now) _
-      (subst (λ (p : Progress). IsCutBy named_of (gates_of p) (map step_view c.args.steps.now) (cut_in c.in-Ok.parts)) c.in_ok-inliner.ensures.start c.in-Ok.ensures.ok);
+      (subst (λ (p : Progress). IsCutBy named_of (gate_views p) (map step_view c.args.steps.now) (cut_in c.in-Ok.parts)) c.in_ok-inliner.ensures.start c.in-Ok.ensures.ok);
   reads = c.in_ok-reads.ensures.ok;
 }

@@ -1,7 +1,7 @@
 -- One value more, by the expression's form if it has one.
 use Rattle.std.proofs.Common.{◌∙◌, ◌+◌, List, map, drop, subst, sym, arith}
 use Rattle.gate_library.specs.Gates.{Formula}
-use Rattle.gate_library.specs.Views.{formula as formula_view}
+use Rattle.gate_library.specs.Views.{formula_view}
 use Rattle.linear_forms.specs.Lines.{AreForms}
 use Rattle.gate_inline.proofs.LineLaws.{drop_views, values_more}
 use Rattle.gate_inline.proofs.value.values.Goals as goal

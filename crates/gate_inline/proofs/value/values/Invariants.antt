@@ -1,6 +1,6 @@
 -- The values so far, and those of the rest; and the forms of the rest.
 use Rattle.std.proofs.Common.{◌≡◌, ◌++◌, Ok, map, drop}
-use Rattle.gate_library.specs.Views.{formula as formula_view}
+use Rattle.gate_library.specs.Views.{formula_view}
 use Rattle.linear_forms.specs.Lines.{AreForms}
 use Rattle.linear_forms.specs.Values.{and_next, values as values_of}
 use Rattle.gate_inline.proofs.value.values.Given as goal

@@ -4,7 +4,7 @@ use Rattle.rewrite_pass.specs.declared.rule.Change.{Change}
 use Rattle.rewrite_pass.specs.Edits.{changed}
 use Rattle.rewrite_pass.specs.Traces.{IsRuleStep}
 use Rattle.rewrite_pass.proofs.PieceLaws.{Lawful}
-use Rattle.hadamard_reduce.specs.Found.{IsFound, number_of}
+use Rattle.hadamard_reduce.specs.Found.{IsFound, rule_number}
 use Rattle.hadamard_reduce.proofs.FoundLaws.{found-step, window_told}
 use Rattle.hadamard_reduce.proofs.RuleLaws.{window_law}
 use Rattle.hadamard_reduce.proofs.HadamardRulesRule.at_slot.Goals as goal
@@ -42,4 +42,4 @@ returns-clause-made c =
     let gs = c.args.body.now.gates in
     let i = c.args.place in
     let w = c.in_ok-window.window in
-    subst (λ (d : Change). (k : ℕ) × IsRuleStep k i gs (changed d gs) d.turn) (sym c.change_of.ensures.value) (number_of w, found-step gs i w (found (goal.at.returns-clause-made c).After-change_of))
+    subst (λ (d : Change). (k : ℕ) × IsRuleStep k i gs (changed d gs) d.turn) (sym c.change_of.ensures.value) (rule_number w, found-step gs i w (found (goal.at.returns-clause-made c).After-change_of))

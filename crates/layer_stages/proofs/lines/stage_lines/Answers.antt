@@ -2,7 +2,7 @@ use Rattle.std.proofs.Common.{◌≡◌, ◌+◌, ◌<◌, ◌++◌, List, [], �
 use Rattle.std.proofs.lemmas.Grind.{common_steps}
 use Rattle.circuit_layers.specs.Layers.{LayerBody, layers_of}
 use Rattle.phase_poly.specs.Polys.{AreDihedral}
-use Rattle.layer_stages.specs.Stages.{IsSoFar}
+use Rattle.layer_stages.specs.Stages.{AreStagesSoFar}
 use Rattle.layer_stages.proofs.StageLaws.{so_far_next}
 use Rattle.layer_stages.proofs.lines.stage_lines.Goals as goal
 
@@ -18,13 +18,13 @@ push_layer-requires-clause-dihedral c =
 
 pub layers-preserved : goal.layers-preserved
 layers-preserved c =
-    let here : IsSoFar c.wires.result c.args.spares (take c.layers.layer-index c.deref-layer-items.result.now) (string_bytes c.layers.text) c.layers.next =
-    subst (λ n. IsSoFar n c.args.spares (take c.layers.layer-index c.deref-layer-items.result.now) (string_bytes c.layers.text) c.layers.next) (sym c.wires.ensures.wires) c.layers.invariant.lines in
-    let more : IsSoFar c.wires.result c.args.spares (take c.layers.layer-index c.deref-layer-items.result.now ++ c.layer-item.result ∷ []) (string_bytes c.push_layer.new.text) c.in_ok-next.next = c.in_ok-next.ensures.lines _ here in
-    let read : IsSoFar c.wires.result c.args.spares (take c.layers.layer-index c.deref-layer-items.result.now ++ slice_index_or c.deref-layer-items.result.now c.layers.layer-index c.layer-item.result ∷ []) (string_bytes c.push_layer.new.text) c.in_ok-next.next =
-    subst (λ (l : LayerBody). IsSoFar c.wires.result c.args.spares (take c.layers.layer-index c.deref-layer-items.result.now ++ l ∷ []) (string_bytes c.push_layer.new.text) c.in_ok-next.next) c.layer-item.is more in
+    let here : AreStagesSoFar c.wires.result c.args.spares (take c.layers.layer-index c.deref-layer-items.result.now) (string_bytes c.layers.text) c.layers.next =
+    subst (λ n. AreStagesSoFar n c.args.spares (take c.layers.layer-index c.deref-layer-items.result.now) (string_bytes c.layers.text) c.layers.next) (sym c.wires.ensures.wires) c.layers.invariant.lines in
+    let more : AreStagesSoFar c.wires.result c.args.spares (take c.layers.layer-index c.deref-layer-items.result.now ++ c.layer-item.result ∷ []) (string_bytes c.push_layer.new.text) c.in_ok-next.next = c.in_ok-next.ensures.lines _ here in
+    let read : AreStagesSoFar c.wires.result c.args.spares (take c.layers.layer-index c.deref-layer-items.result.now ++ slice_index_or c.deref-layer-items.result.now c.layers.layer-index c.layer-item.result ∷ []) (string_bytes c.push_layer.new.text) c.in_ok-next.next =
+    subst (λ (l : LayerBody). AreStagesSoFar c.wires.result c.args.spares (take c.layers.layer-index c.deref-layer-items.result.now ++ l ∷ []) (string_bytes c.push_layer.new.text) c.in_ok-next.next) c.layer-item.is more in
     record {
-      lines = subst (λ n. IsSoFar n c.args.spares (take (c.layers.layer-index + 1) c.deref-layer-items.result.now) (string_bytes c.push_layer.new.text) c.in_ok-next.next) c.wires.ensures.wires
+      lines = subst (λ n. AreStagesSoFar n c.args.spares (take (c.layers.layer-index + 1) c.deref-layer-items.result.now) (string_bytes c.push_layer.new.text) c.in_ok-next.next) c.wires.ensures.wires
           (so_far_next c.wires.result c.args.spares c.deref-layer-items.result.now c.layers.layer-index c.layer-item.result (string_bytes c.push_layer.new.text) c.in_ok-next.next c.layers-test.true read);
       few = let a = c.in_ok-next.ensures.next in let b = c.layers.invariant.few in omega (arith, a, b);
     }

@@ -6,7 +6,7 @@ use Rattle.std.proofs.lemmas.Option.{IfSome_then}
 use Rattle.angle_fraction.specs.Fraction.{inverse_of}
 use Rattle.angle_fraction.specs.declared.signs.Binary.TheVariants.{Add, Sub, Mul, Div}
 use Rattle.gate_library.specs.Gates.{Formula, binary, negated}
-use Rattle.gate_library.specs.Views.{formula as formula_view}
+use Rattle.gate_library.specs.Views.{formula_view}
 use Rattle.linear_forms.specs.Linear.{IsGathered, IsScaled}
 use Rattle.linear_forms.proofs.LinearLaws.{gathered_difference, gathered_left, gathered_negated, gathered_quotient, gathered_right, gathered_sum}
 use Rattle.linear_forms.specs.declared.form.Sums.{Sums}

@@ -1,6 +1,6 @@
 -- The forms so far, one by one.
 use Rattle.std.proofs.Common.{◌+◌, map, drop, arith}
-use Rattle.gate_library.specs.Views.{formula as formula_view}
+use Rattle.gate_library.specs.Views.{formula_view}
 use Rattle.linear_forms.proofs.FormLaws.{drop_views, forms_all, forms_more}
 use Rattle.linear_forms.proofs.line.forms_of.Goals as goal
 

@@ -1,7 +1,7 @@
 -- What a form gives is the value.
 use Rattle.std.proofs.Common.{Bor, Option, IfSome, subst}
 use Rattle.std.proofs.lemmas.Option.{IfSome_then}
-use Rattle.gate_library.specs.Views.{formula as formula_view}
+use Rattle.gate_library.specs.Views.{formula_view}
 use Rattle.linear_forms.specs.Linear.{IsForm}
 use Rattle.linear_forms.specs.declared.form.Form.{Form}
 use Rattle.linear_forms.proofs.value.value_of_form.Goals as goal

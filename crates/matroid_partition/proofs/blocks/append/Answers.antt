@@ -2,7 +2,7 @@ use Rattle.std.proofs.Common.{◌≡◌, ◌∙◌, ◌<◌, List, ℕ, length, 
 use Rattle.std.specs.Prelude.{All}
 use Rattle.std.specs.Borrow.{Bor}
 use Rattle.gf2_linear.specs.Rows.{rows_at}
-use Rattle.matroid_partition.specs.Blocks.{values}
+use Rattle.matroid_partition.specs.Blocks.{referenced_rows}
 use Rattle.matroid_partition.specs.Places.{IsAscending, put_in}
 use Rattle.matroid_partition.proofs.PlaceLaws.{put_in-behind, IsAscending-put_in}
 use Rattle.matroid_partition.proofs.BlockLaws.{room-absent, within-put_in, independent-put_in, basis-append, length-values, value-at}
@@ -15,7 +15,7 @@ returns-clause-places c =
 pub returns-clause-block : goal.returns-clause-block
 returns-clause-block c =
     let ps : List ℕ = c.args.block.now.places.items in
-    let rows : List ℕ = values c.args.rows.now in
+    let rows : List ℕ = referenced_rows c.args.rows.now in
     let inside : c.args.place < length rows = subst (λ k. c.args.place < k) (sym (length-values c.args.rows.now)) c.requires.within in
     let e : c.push.new.self.items ≡ put_in c.args.place ps = c.in_ok-push.ensures.items ∙ sym (put_in-behind c.args.place ps c.requires.behind) in
     record {

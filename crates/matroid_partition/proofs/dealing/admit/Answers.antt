@@ -4,7 +4,7 @@ use Rattle.matroid_partition.specs.declared.blocks.Block.{Block}
 use Rattle.matroid_partition.specs.declared.dealing.Dealing.{Dealing}
 use Rattle.matroid_partition.specs.Arrangements.{Arrangement}
 use Rattle.matroid_partition.specs.Blocks.{SpansFirst}
-use Rattle.matroid_partition.specs.Dealings.{IsHeld, IsStuck, IsTakenIn}
+use Rattle.matroid_partition.specs.Dealings.{IsHeld, FindsNoPlace, IsTakenIn}
 use Rattle.matroid_partition.proofs.PartLaws.{spans-more}
 use Rattle.matroid_partition.proofs.DealingLaws.{dealing-put_by, dealing-taken, held-same, held-widened, if_none, if_some, none_is, some_is}
 use Rattle.matroid_partition.proofs.dealing.admit.Goals as goal
@@ -37,7 +37,7 @@ returns-clause-dealing c m g =
     let mid : Dealing = record { held = c.widen.new.self; names = c.args.dealing.now.names; over = c.args.dealing.now.over } in
     let sums : SpansFirst (c.args.place + 1) c.args.rows.now c.widen.new.self.all =
     spans-more c.args.rows.now c.args.place c.index-rows-place.result c.args.dealing.now.held.all c.widen.new.self.all is g.sums c.in_ok-widen.ensures.ok.kept c.in_ok-widen.ensures.ok.row in
-    let stuck = if_some c.in_ok-offer.field-0 (λ s. IsStuck c.args.rows.now c.args.place mid c.offer.new.dealing s.items)
+    let stuck = if_some c.in_ok-offer.field-0 (λ s. FindsNoPlace c.args.rows.now c.args.place mid c.offer.new.dealing s.items)
     (some_is c.in_ok-offer.field-0 c.is_none.result c.is_none.ensures c.if-is_none.false) c.in_ok-offer.ensures.some in
     let u = stuck.1.same in
     let d : Dealing = record { held = c.offer.new.dealing.held; names = c.offer.new.dealing.names; over = c.push.new.self } in
@@ -53,6 +53,6 @@ returns-clause-dealing c m g =
 pub returns-clause-blocks : goal.returns-clause-blocks
 returns-clause-blocks c =
     let mid : Dealing = record { held = c.widen.new.self; names = c.args.dealing.now.names; over = c.args.dealing.now.over } in
-    let stuck = if_some c.in_ok-offer.field-0 (λ s. IsStuck c.args.rows.now c.args.place mid c.offer.new.dealing s.items)
+    let stuck = if_some c.in_ok-offer.field-0 (λ s. FindsNoPlace c.args.rows.now c.args.place mid c.offer.new.dealing s.items)
     (some_is c.in_ok-offer.field-0 c.is_none.result c.is_none.ensures c.if-is_none.false) c.in_ok-offer.ensures.some in
     ap (λ (a : Arrangement). length a.blocks) stuck.1.same.held ∙ ap (λ (q : List Block). length q) c.in_ok-widen.ensures.ok.blocks

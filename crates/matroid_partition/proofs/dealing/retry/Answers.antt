@@ -3,7 +3,7 @@ use Rattle.std.proofs.lemmas.Bool.{cases_eq}
 use Rattle.std.proofs.lemmas.List.{get_or_read, length-set}
 use Rattle.gf2_linear.specs.Rows.{is_sum}
 use Rattle.matroid_partition.specs.Arrangements.{Arrangement}
-use Rattle.matroid_partition.specs.Dealings.{IsMarked}
+use Rattle.matroid_partition.specs.Dealings.{AddsMarks}
 use Rattle.matroid_partition.specs.Searches.{IsSeen}
 use Rattle.matroid_partition.proofs.PlaceLaws.{Has-at, at-Has}
 use Rattle.matroid_partition.proofs.DealingLaws.{closed-same, closed-union, held-named, held-same, marks-set, marks-only, marks-there, unchanged-twice}
@@ -76,8 +76,8 @@ over-preserved c =
           (set c.mark.new.marks.items c.index-place.result.now true) c.facts.ensures.arranged c.requires.held
           (closed-same c.args.rows.now c.args.dealing.now c.over.dealing c.index-place.result.now c.in-Some.seen.items c.over.invariant.same stuck.closed)
           c.over.invariant.closed
-          (subst (λ (q : List Bool). IsMarked c.over.marks.items c.mark.new.marks.items c.args.dealing.now.names.items q) c.deref-in-Some.ensures.value
-          (subst (λ (q : List ℕ). IsMarked c.over.marks.items c.mark.new.marks.items q c.deref-in-Some.result.now) (c.deref.ensures.value ∙ stuck.same.names ∙ c.over.invariant.same.names) c.mark.ensures))
+          (subst (λ (q : List Bool). AddsMarks c.over.marks.items c.mark.new.marks.items c.args.dealing.now.names.items q) c.deref-in-Some.ensures.value
+          (subst (λ (q : List ℕ). AddsMarks c.over.marks.items c.mark.new.marks.items q c.deref-in-Some.result.now) (c.deref.ensures.value ∙ stuck.same.names ∙ c.over.invariant.same.names) c.mark.ensures))
           kept (marks-only c.mark.new.marks.items c.index-place.result.now);
     }
 

@@ -1,5 +1,5 @@
 use Rattle.std.proofs.Common.{◌≡◌, ◌<◌, ℕ, length, slice_index}
-use Rattle.matroid_partition.specs.Dealings.{AreMarked, IsUnchanged}
+use Rattle.matroid_partition.specs.Dealings.{AreMarkedSpanned, IsUnchanged}
 use Rattle.matroid_partition.specs.Searches.{IsSeen}
 use Rattle.matroid_partition.proofs.dealing.retry.Given as goal
 
@@ -8,5 +8,5 @@ invariant-over l = record {
   same : IsUnchanged l.fn.dealing l.dealing;
   long : length l.marks.items ≡ length l.rows;
   over : (j : ℕ) → j < l.index → IsSeen l.marks.items (slice_index l.fn.dealing.over.items j);
-  closed : AreMarked l.rows l.fn.dealing l.marks.items;
+  closed : AreMarkedSpanned l.rows l.fn.dealing l.marks.items;
 }

@@ -1,6 +1,6 @@
 use Rattle.std.proofs.Common.{◌≡◌, ◌∙◌, ◌<◌, ℕ, List, length, subst, sym, ap, arith}
 use Rattle.std.specs.Prelude.{All}
-use Rattle.matroid_partition.specs.Dealings.{IsWritten}
+use Rattle.matroid_partition.specs.Dealings.{AreWrittenAt}
 use Rattle.matroid_partition.proofs.DealingLaws.{held-named}
 use Rattle.matroid_partition.proofs.DealtLaws.{homes-housed, names-below, over-below}
 use Rattle.matroid_partition.proofs.dealt.homes_of.Goals as goal
@@ -33,8 +33,8 @@ returns c =
     let last : List ℕ = c.write_at-2.new.list.items in
     homes-housed c.args.rows.now c.args.spares d first homes c.in_ok-given.given.items last c.requires.dealing
     (omega (arith, c.in_ok-homes.ensures.len, c.in_ok-homes.homes.ok.0))
-    (subst (λ (q : List ℕ). IsWritten first homes q d.held.homes (length q)) c.deref.ensures.value
-    (subst (λ (q : List ℕ). IsWritten first homes c.deref.result.now q (length c.deref.result.now)) c.homes.ensures.value c.write_at.ensures))
+    (subst (λ (q : List ℕ). AreWrittenAt first homes q d.held.homes (length q)) c.deref.ensures.value
+    (subst (λ (q : List ℕ). AreWrittenAt first homes c.deref.result.now q (length c.deref.result.now)) c.homes.ensures.value c.write_at.ensures))
     (λ j l. c.in_ok-given.ensures.each j (omega (arith, l, c.len.ensures, d.over.ok.0)))
-    (subst (λ (q : List ℕ). IsWritten homes last q c.in_ok-given.given.items (length q)) c.deref-2.ensures.value
-    (subst (λ (q : List ℕ). IsWritten homes last c.deref-2.result.now q (length c.deref-2.result.now)) c.deref-3.ensures.value c.write_at-2.ensures))
+    (subst (λ (q : List ℕ). AreWrittenAt homes last q c.in_ok-given.given.items (length q)) c.deref-2.ensures.value
+    (subst (λ (q : List ℕ). AreWrittenAt homes last c.deref-2.result.now q (length c.deref-2.result.now)) c.deref-3.ensures.value c.write_at-2.ensures))

@@ -1,7 +1,7 @@
 -- The row is as long as its copied words, so the sum is all of it.
 use Rattle.std.proofs.Common.{◌≡◌, ℕ, ◌+◌, ◌<◌, ◌≤◌, List, ◌++◌, bit_xor, length, get_or, take, drop, sym, ◌∙◌, ap, arith}
 use Rattle.std.proofs.Math.Seq.{take-append_seam}
-use Rattle.path_parity.specs.Sets.{first_place, places_end, word_at}
+use Rattle.path_parity.specs.Sets.{first_word_place, places_end, word_at}
 use Rattle.path_parity.proofs.packed.write_between.Goals as goal
 
 whole : (n : ℕ) (row rest : List ℕ) → n ≡ length row → take n (row ++ rest) ≡ row
@@ -14,7 +14,7 @@ record Between (row xs ys : List ℕ) (start size : ℕ) : Type 0 where
 
 between : (one two xs ys : List ℕ) (start size : ℕ) → length one ≡ size + 1 → get_or one 0 0 ≡ start →
     ((p : ℕ) → start ≤ p → p < start + size → word_at one p ≡ word_at xs p) → length two ≡ length one → get_or two 0 0 ≡ get_or one 0 0 →
-    ((p : ℕ) → first_place one ≤ p → p < places_end one → word_at two p ≡ bit_xor (word_at one p) (word_at ys p)) → Between two xs ys start size
+    ((p : ℕ) → first_word_place one ≤ p → p < places_end one → word_at two p ≡ bit_xor (word_at one p) (word_at ys p)) → Between two xs ys start size
 between one two xs ys start size long first words same place added = record {
   long = same ∙ long;
   first = place ∙ first;

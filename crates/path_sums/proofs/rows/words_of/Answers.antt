@@ -4,7 +4,7 @@ use Rattle.std.specs.declared.alloc.Global.{Global}
 use Rattle.path_sums.specs.declared.words.Word.{Word}
 use Rattle.path_sums.specs.Words.{AreAscending, words_set}
 use Rattle.path_sums.specs.Rows.{words_behind, words_in}
-use Rattle.path_sums.specs.Sums.{IsCompact, compact_set, mark}
+use Rattle.path_sums.specs.Sums.{IsCompact, compact_set, sparse_mark}
 use Rattle.path_sums.proofs.RowLaws.{IfOk-more, IsRowOf, full, full-row, marked}
 use Rattle.path_sums.proofs.rows.words_of.Goals as goal
 use Rattle.path_sums.proofs.rows.words_of.Goals.{else-not-is_empty-via-then-not-is_empty+else-row, else-not-is_empty-via-else-not-is_empty}

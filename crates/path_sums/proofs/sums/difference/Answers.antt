@@ -6,7 +6,7 @@ use Rattle.circuit_list.specs.Gates.{IsFine}
 use Rattle.indexmap.specs.IndexSet.{insert_all}
 use Rattle.path_parity.specs.NamedSums.{unseen}
 use Rattle.path_sums.specs.Names.{number_by, variables_of}
-use Rattle.path_sums.specs.Sums.{IsWalked}
+use Rattle.path_sums.specs.Sums.{HasPassedAll}
 use Rattle.path_sums.proofs.CountLaws.{same-counts}
 use Rattle.path_sums.proofs.NamingLaws.{named-both}
 use Rattle.path_sums.proofs.WalkedLaws.{function-walks, unlike, walks-difference}
@@ -25,7 +25,7 @@ returns-then-is_same c =
     let names = c.note_names-2.new.names.keys in
     let more : names ≡ insert_all nat_eq c.note_names.new.names.keys (variables_of n B unseen) = c.in_ok-second.ensures.names ∙ (λ i. insert_all nat_eq c.note_names.new.names.keys (variables_of (sym c.requires.wires i) B unseen)) in
     let named = named-both c.new-names.result.keys c.note_names.new.names.keys names (variables_of n A unseen) (variables_of n B unseen) c.in_ok-first.ensures.names more in
-    let second : IsWalked n (number_by n names) B 1 one two b = subst (λ k. IsWalked k (number_by k names) B 1 one two b) (sym c.requires.wires) c.in_ok-after.ensures.walked in
+    let second : HasPassedAll n (number_by n names) B 1 one two b = subst (λ k. HasPassedAll k (number_by k names) B 1 one two b) (sym c.requires.wires) c.in_ok-after.ensures.walked in
     record { same = walks-difference n names A B named.0 named.1 none one two a b c.new-totals.ensures.sets c.new-totals.ensures.constant c.in_ok-before.ensures.walked second (c.is_same.ensures.0 c.if-is_same.true) }
 
 pub returns : goal.returns
@@ -41,7 +41,7 @@ returns c =
     let names = c.note_names-2.new.names.keys in
     let more : names ≡ insert_all nat_eq c.note_names.new.names.keys (variables_of n B unseen) = c.in_ok-second.ensures.names ∙ (λ i. insert_all nat_eq c.note_names.new.names.keys (variables_of (sym c.requires.wires i) B unseen)) in
     let named = named-both c.new-names.result.keys c.note_names.new.names.keys names (variables_of n A unseen) (variables_of n B unseen) c.in_ok-first.ensures.names more in
-    let second : IsWalked n (number_by n names) B 1 one two b = subst (λ k. IsWalked k (number_by k names) B 1 one two b) (sym c.requires.wires) c.in_ok-after.ensures.walked in
+    let second : HasPassedAll n (number_by n names) B 1 one two b = subst (λ k. HasPassedAll k (number_by k names) B 1 one two b) (sym c.requires.wires) c.in_ok-after.ensures.walked in
     record { same = unlike n A B (λ h. true≢false (sym (c.is_same.ensures.1 (function-walks n names A B named.0 named.1 none one two a b c.new-totals.ensures.sets c.new-totals.ensures.constant c.in_ok-before.ensures.walked second h)) ∙ c.if-is_same.false)) }
 
 pub returns-then-ne : goal.returns-then-ne

@@ -3,7 +3,7 @@ use Rattle.std.proofs.Common.{◌∙◌, ap, arith, subst, sym}
 use Rattle.path_parity.specs.NamedSums.{constant_at}
 use Rattle.path_parity.specs.PathSum.{own_labels}
 use Rattle.path_sums.specs.Names.{IsTouched, number_by, term_by}
-use Rattle.path_sums.specs.Sums.{Adds, Passes, labels_in, seen_in}
+use Rattle.path_sums.specs.Sums.{Adds, PassesGate, labels_in, seen_in}
 use Rattle.path_sums.proofs.TouchedLaws.{touched-at}
 use Rattle.path_sums.proofs.WalkedLaws.{underway-start, underway-more, underway-end}
 use Rattle.path_sums.proofs.sums.walked.Goals as goal
@@ -28,7 +28,7 @@ gates-preserved c =
     record {
       touched = c.in_ok-pass.ensures.passes.touched ∙ c.gates.invariant.touched;
       walk = underway-more n (number_by n names) c.args.body.now.gates c.gates.place c.gate.result c.args.sign c.args.totals.now c.gates.totals c.pass.new.totals w c.pass.new.self c.gate.ensures.there
-          (subst (λ k. Passes (number_by k names) c.gate.result w c.pass.new.self) c.gates.invariant.walk.wires c.in_ok-pass.ensures.passes)
+          (subst (λ k. PassesGate (number_by k names) c.gate.result w c.pass.new.self) c.gates.invariant.walk.wires c.in_ok-pass.ensures.passes)
           (subst (λ k. Adds c.args.sign (term_by w.wires (number_by k names) c.gate.result (labels_in w) (seen_in w)) (constant_at c.gate.result (labels_in w)) c.gates.totals c.pass.new.totals) c.gates.invariant.walk.wires c.in_ok-pass.ensures.adds)
           c.gates.invariant.walk;
     }

@@ -5,13 +5,13 @@ use Rattle.circuit_list.specs.Gates.{ops}
 use Rattle.gf2_linear.specs.Rows.{is_independent}
 use Rattle.gf2_linear.proofs.MatrixLaws.{length-identity}
 use Rattle.matroid_partition.specs.Partitions.{IsPartition}
-use Rattle.phase_poly.specs.Resynthesis.{picked, rows_of, flip_gates}
+use Rattle.phase_poly.specs.Resynthesis.{picked, rows_of_terms, flip_gates}
 use Rattle.phase_poly.proofs.ResynthLaws.{partition-nonzero, identity_independent, blocks-within, blocks-independent, poly-terms, poly-map, mid_built, mid_few, resynth_told, few_told}
 use Rattle.phase_poly.proofs.resynthesis.rebuilt.Goals as goal
 
 pub partition-requires : goal.partition-requires
 partition-requires c =
-    let rows : c.deref.result.now ≡ rows_of c.in_ok-sum.sum.terms = grind (arith, common_steps) in
+    let rows : c.deref.result.now ≡ rows_of_terms c.in_ok-sum.sum.terms = grind (arith, common_steps) in
     record { nonzero = partition-nonzero c.args.wires c.args.list.now c.in_ok-sum.sum c.deref.result.now c.requires.dihedral c.in_ok-sum.ensures.ok rows }
 
 pub put_blocks-requires-clause-held : goal.put_blocks-requires-clause-held
@@ -19,7 +19,7 @@ put_blocks-requires-clause-held c = identity_independent c.args.wires c.in_ok-he
 
 pub put_blocks-requires-clause-within : goal.put_blocks-requires-clause-within
 put_blocks-requires-clause-within c = λ k d l.
-    let rows : c.deref.result.now ≡ rows_of c.terms-2.result.now = grind (arith, common_steps) in
+    let rows : c.deref.result.now ≡ rows_of_terms c.terms-2.result.now = grind (arith, common_steps) in
     let blocks : c.deref-2.result.now ≡ c.in_ok-parts.parts.blocks.items = grind (arith, common_steps) in
     blocks-within (λ b. b.items) c.deref.result.now c.terms-2.result.now c.deref-2.result.now rows
     (subst (λ bs. IsPartition c.deref.result.now (map (λ b. b.items) bs)) (sym blocks) c.in_ok-parts.ensures.partition) k d l
@@ -31,7 +31,7 @@ put_blocks-requires-clause-terms c =
 
 pub put_blocks-requires-clause-independent : goal.put_blocks-requires-clause-independent
 put_blocks-requires-clause-independent c = λ k d l.
-    let rows : c.deref.result.now ≡ rows_of c.terms-2.result.now = grind (arith, common_steps) in
+    let rows : c.deref.result.now ≡ rows_of_terms c.terms-2.result.now = grind (arith, common_steps) in
     let blocks : c.deref-2.result.now ≡ c.in_ok-parts.parts.blocks.items = grind (arith, common_steps) in
     blocks-independent (λ b. b.items) c.deref.result.now c.terms-2.result.now c.deref-2.result.now rows
     (subst (λ bs. IsPartition c.deref.result.now (map (λ b. b.items) bs)) (sym blocks) c.in_ok-parts.ensures.partition) k d l
@@ -49,7 +49,7 @@ bring-requires-clause-target c =
 pub returns-clause-resynthesis : goal.returns-clause-resynthesis
 returns-clause-resynthesis c =
     let size : length c.in_ok-held.held ≡ c.args.wires = ap (λ (m : List _). length m) c.in_ok-held.ensures.ok ∙ length-identity c.args.wires in
-    let rows : c.deref.result.now ≡ rows_of c.in_ok-sum.sum.terms = grind (arith, common_steps) in
+    let rows : c.deref.result.now ≡ rows_of_terms c.in_ok-sum.sum.terms = grind (arith, common_steps) in
     let blocks : c.deref-2.result.now ≡ c.in_ok-parts.parts.blocks.items = grind (arith, common_steps) in
     let built = mid_built c.args.wires (length c.in_ok-held.held) (length c.put_blocks.new.held) c.new-gates.result.items c.put_blocks.new.gates.items c.bring.new.gates.items
     c.in_ok-held.held c.put_blocks.new.held c.map.result.now (picked c.terms-2.result.now (map (λ b. b.items) c.deref-2.result.now)) size c.in_ok-put_blocks.ensures.size
@@ -63,7 +63,7 @@ returns-clause-resynthesis c =
 pub returns-clause-cx_bound : goal.returns-clause-cx_bound
 returns-clause-cx_bound c =
     let size : length c.in_ok-held.held ≡ c.args.wires = ap (λ (m : List _). length m) c.in_ok-held.ensures.ok ∙ length-identity c.args.wires in
-    let rows : c.deref.result.now ≡ rows_of c.in_ok-sum.sum.terms = grind (arith, common_steps) in
+    let rows : c.deref.result.now ≡ rows_of_terms c.in_ok-sum.sum.terms = grind (arith, common_steps) in
     let blocks : c.deref-2.result.now ≡ c.in_ok-parts.parts.blocks.items = grind (arith, common_steps) in
     let pushed : c.push_flips.new.gates.items ≡ c.bring.new.gates.items ++ flip_gates c.args.wires c.flips.result.now = c.in_ok-flips.ensures.ok in
     let none : cx_count (ops c.new-gates.result.items) ≡ 0 = ap (λ gs. cx_count (ops gs)) c.new-gates.ensures.items in

@@ -2,9 +2,9 @@
 use Rattle.std.proofs.Common.{◌≡◌}
 use Rattle.std.proofs.lemmas.Result.{IfErr-weaker, IfOk-weaker}
 use Rattle.gate_inline.specs.Programs.{Program, kept}
-use Rattle.qasm_check.specs.CheckedView.{program as bound_program}
-use Rattle.qasm_parser.specs.Tree.{program as tree_of}
-use Rattle.program_reader.specs.Stages.{IsReadAs, IsUnwritten}
+use Rattle.qasm_check.specs.CheckedView.{program_view as bound_program}
+use Rattle.qasm_parser.specs.Tree.{program_tree as tree_of}
+use Rattle.program_reader.specs.Stages.{IsBoundReadAs, IsUnwritten}
 use Rattle.program_reader.specs.Texts.{IsAcceptedText, IsTextFault}
 use Rattle.program_reader.proofs.ReaderLaws.{IsAcceptedText-read, IsTextFault-written}
 use Rattle.program_reader.proofs.RegisterLaws.{named_registers}
@@ -16,7 +16,7 @@ write_out-requires c =
 
 pub returns-clause-ok : goal.returns-clause-ok
 returns-clause-ok c =
-    IfOk-weaker c.write_out.result (IsReadAs (bound_program c.in_ok-checked.checked) c.args.keep) (λ s. (p : Program) × IsAcceptedText c.args.text.now p × (s ≡ kept c.args.keep p))
+    IfOk-weaker c.write_out.result (IsBoundReadAs (bound_program c.in_ok-checked.checked) c.args.keep) (λ s. (p : Program) × IsAcceptedText c.args.text.now p × (s ≡ kept c.args.keep p))
     (λ s h. IsAcceptedText-read c.args.text.now (tree_of c.in_ok-program.program) (bound_program c.in_ok-checked.checked) c.args.keep s
     c.in_ok-program.ensures.ok c.in_ok-checked.ensures.ok.0 c.in_ok-checked.ensures.ok.1 h) c.write_out.ensures.ok
 

@@ -1,5 +1,5 @@
 -- What is read as one part is what the program means.
-use Rattle.qasm_check.specs.CheckedView.{program as bound_program}
+use Rattle.qasm_check.specs.CheckedView.{program_view as bound_program}
 use Rattle.program_reader.proofs.ReaderLaws.{whole-means}
 use Rattle.program_reader.proofs.reading.write_whole.Goals as goal
 

@@ -6,7 +6,7 @@ use Rattle.qasm_check.specs.Arguments.{operands}
 use Rattle.qasm_check.specs.Known.{gate_number, meaning}
 use Rattle.qasm_check.specs.State.{state}
 use Rattle.qasm_check.specs.Steps.{formula as bound}
-use Rattle.gate_library.specs.Views.{formula}
+use Rattle.gate_library.specs.Views.{formula_view}
 use Rattle.qasm_check.proofs.act.application.Goals as goal
 
 pub returns-clause-ok : goal.returns-clause-ok
@@ -14,7 +14,7 @@ returns-clause-ok c =
     let K = state c.args.known.now in
     let a = application c.args.apply.now in
     let number : c.number_of.result ≡ gate_number (meaning K a.gate) = c.number_of.ensures.value ∙ ap gate_number (c.meaning-found.ensures.value ∙ ap (meaning K) c.as_bytes.ensures.value) in
-    let angles : map formula c.in_ok-angles.angles.items ≡ map (bound []) a.angles =
+    let angles : map formula_view c.in_ok-angles.angles.items ≡ map (bound []) a.angles =
     c.in_ok-angles.ensures.ok
     ∙ ap (λ (ps : List (List ℕ)). map (λ (e : Expr). bound ps (expression e)) c.deref.result.now) c.none-none.ensures.value
     ∙ ap (map (λ (e : Expr). bound [] (expression e))) c.deref.ensures.value

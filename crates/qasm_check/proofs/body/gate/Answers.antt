@@ -2,7 +2,7 @@ use Rattle.std.proofs.Common.{◌≡◌, ℕ, List, ap, subst, ◌∙◌, map}
 use Rattle.std.proofs.lemmas.Result.{err_from_is_err_and}
 use Rattle.qasm_parser.specs.Tree.{action}
 use Rattle.qasm_parser.specs.declared.tree.Stmt.{Stmt}
-use Rattle.gate_library.specs.Views.{item as item_view}
+use Rattle.gate_library.specs.Views.{item_view}
 use Rattle.qasm_check.specs.Bodies.{HasFlaws}
 use Rattle.qasm_check.specs.State.{state}
 use Rattle.qasm_check.specs.Steps.{item as bound_item}

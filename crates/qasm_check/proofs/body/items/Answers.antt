@@ -6,7 +6,7 @@ use Rattle.std.proofs.lemmas.Simd.{map-map}
 use Rattle.qasm_parser.specs.Tree.{action}
 use Rattle.qasm_parser.specs.declared.tree.Stmt.{Stmt}
 use Rattle.gate_library.specs.Gates.{Item}
-use Rattle.gate_library.specs.Views.{item as item_view}
+use Rattle.gate_library.specs.Views.{item_view}
 use Rattle.qasm_check.specs.Bodies.{either_flaw, flaws_of}
 use Rattle.qasm_check.specs.Known.{meaning}
 use Rattle.qasm_check.specs.Meanings.{names_register}

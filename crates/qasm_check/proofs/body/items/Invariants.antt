@@ -4,7 +4,7 @@ use Rattle.qasm_parser.specs.Tree.{action}
 use Rattle.qasm_check.specs.Bodies.{HasFlaws}
 use Rattle.qasm_check.specs.State.{state}
 use Rattle.qasm_check.specs.Steps.{item}
-use Rattle.gate_library.specs.Views.{item as item_view}
+use Rattle.gate_library.specs.Views.{item_view}
 use Rattle.qasm_check.proofs.body.items.Given as goal
 
 abbrev pub invariant-items : goal.invariant-items

@@ -2,7 +2,7 @@ use Rattle.std.proofs.Common.{◌≡◌, ◌∷◌, [], ◌++◌, List, Option, 
 use Rattle.std.specs.Option.{option_to_list}
 use Rattle.std.specs.Vec.Iter.{into_iter_items}
 use Rattle.qasm_parser.specs.Tree.{statement as tree}
-use Rattle.qasm_check.specs.Checking.{bits_of}
+use Rattle.qasm_check.specs.Checking.{declared_bits}
 use Rattle.qasm_check.specs.declared.register.ClassicalRegister.{ClassicalRegister}
 use Rattle.qasm_check.proofs.ProgramLaws.{registers-push, small_at}
 use Rattle.qasm_check.proofs.program.registers_of.Goals as goal
@@ -20,5 +20,5 @@ statements-preserved c =
     record {
       all = append_assoc at.yielded (c.in-Some.it ∷ []) _ ∙ rw (← steps) at.invariant.all;
       made = c.in_ok-add_bits.ensures ∙ ap (λ (o : Option ClassicalRegister). at.registers.items ++ option_to_list o) c.bits_of.ensures
-          ∙ ap (λ (bs : List ClassicalRegister). bs ++ option_to_list (bits_of (tree c.in-Some.it))) at.invariant.made ∙ sym (registers-push at.yielded c.in-Some.it);
+          ∙ ap (λ (bs : List ClassicalRegister). bs ++ option_to_list (declared_bits (tree c.in-Some.it))) at.invariant.made ∙ sym (registers-push at.yielded c.in-Some.it);
     }

@@ -1,7 +1,7 @@
 use Rattle.std.proofs.Common.{◌∙◌, ◌<◌, ◌+◌, List, ap, arith, length, length-drop, drop, sym, Some}
 use Rattle.qasm_lexer.specs.Lexed.{lexed_from}
 use Rattle.qasm_lexer.specs.Numbers.{begins_with}
-use Rattle.qasm_lexer.specs.Steps.{joined}
+use Rattle.qasm_lexer.specs.Steps.{joined_tokens}
 use Rattle.qasm_lexer.specs.declared.Kind.TheVariants.{Whole}
 use Rattle.qasm_lexer.specs.declared.Token.{Token}
 use Rattle.qasm_lexer.proofs.PlainLaws.{nought-there}
@@ -23,9 +23,9 @@ noughts-preserved c =
     let rest = lexed_from (i + 1) (drop (i + 1) t) in
     record {
       same =
-          ap (λ (ts : List Token). joined ts rest) c.in_ok-keep.ensures.ok
+          ap (λ (ts : List Token). joined_tokens ts rest) c.in_ok-keep.ensures.ok
           ∙ sym (joined-before c.noughts.tokens.items (Some (record { kind = Whole; from = i; to = i + 1 })) rest)
-          ∙ ap (joined c.noughts.tokens.items) (sym step.1) ∙ c.noughts.invariant.same;
+          ∙ ap (joined_tokens c.noughts.tokens.items) (sym step.1) ∙ c.noughts.invariant.same;
       digits = step.0;
       further = omega arith;
     }

@@ -4,7 +4,7 @@ use Rattle.qasm_parser.specs.Places.{IsSyntaxPlace}
 use Rattle.qasm_parser.specs.Shapes.{tree_shape}
 use Rattle.qasm_parser.specs.Ways.{stuck, walk}
 use Rattle.qasm_parser.specs.Reading.{Read, read, tree_of}
-use Rattle.qasm_parser.specs.Tree.{Tree, most_depth, program}
+use Rattle.qasm_parser.specs.Tree.{Tree, most_depth, program_tree}
 use Rattle.std.proofs.Common.{◌≡◌, ℕ, List, sym}
 use Rattle.qasm_parser.proofs.OnceLaws.{accepted}
 use Rattle.qasm_parser.proofs.SyntaxPlaces.{place-there, unspelt}
@@ -20,7 +20,7 @@ returns-in-Err-Misfit-clause-err c =
 
 pub returns-clause-ok : goal.returns-clause-ok
 returns-clause-ok c =
-    let t : Tree = program c.in-Ok.read.0 in
+    let t : Tree = program_tree c.in-Ok.read.0 in
     accepted c.args.text.now c.args.tokens.now t c.tree.new.cursor
     (ap (tree_of most_depth) (sym c.new-cursor.ensures.value) ∙ c.in-Ok.ensures.ok ∙ ap (λ (d : Option ℕ). Some (read t d c.tree.new.cursor)) c.in_default.is)
     (c.if-not-is_two.ensures.0 refl)

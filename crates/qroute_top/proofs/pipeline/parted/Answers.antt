@@ -4,7 +4,7 @@ use Rattle.std.specs.declared.alloc.Global.{Global}
 use Rattle.circuit_target.specs.Parted.{lists_of}
 use Rattle.gate_expand.specs.Expansion.{IsFineOp}
 use Rattle.gate_inline.specs.Sizes.{most_operations}
-use Rattle.gate_inline.specs.Splits.{IsBar}
+use Rattle.gate_inline.specs.Splits.{IsBarrier}
 use Rattle.program_parts.specs.Cuts.{whole}
 use Rattle.unitary_model.specs.Limits.{most_qubits}
 use Rattle.unitary_model.specs.declared.Op.{Op}
@@ -25,7 +25,7 @@ new-requires c =
       cut = subst (λ (uss : List (List Op)). length uss ≡ suc (length named)) (sym lists)
           (subst (λ (wss : List (List ℕ)). length s.cut.parts ≡ suc (length wss)) bars f.cut);
       fine = subst (λ (n : ℕ). All (IsFineOp n) (whole (lists_of c.parts.result.now))) wires (subst (All (IsFineOp s.wires)) ops f.fine);
-      bars = subst (λ (n : ℕ). All (IsBar n) named) wires (subst (All (IsBar s.wires)) bars f.bars);
+      bars = subst (λ (n : ℕ). All (IsBarrier n) named) wires (subst (All (IsBarrier s.wires)) bars f.bars);
       on = subst (λ (n : ℕ). All (λ o. o.wires ≡ n) c.parts.result.now) wires c.parts.ensures.wires;
     }
 

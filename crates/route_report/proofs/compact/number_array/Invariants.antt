@@ -1,7 +1,7 @@
 use Rattle.std.proofs.Common.{◌≡◌, map, take}
 use Rattle.serde_json.specs.View.{view}
-use Rattle.route_report.specs.Compact.{whole}
+use Rattle.route_report.specs.Compact.{json_whole}
 use Rattle.route_report.proofs.compact.number_array.Given as goal
 
 abbrev pub invariant-numbers : goal.invariant-numbers
-invariant-numbers l = map view l.list.items ≡ map whole (take l.number-index l.numbers)
+invariant-numbers l = map view l.list.items ≡ map json_whole (take l.number-index l.numbers)

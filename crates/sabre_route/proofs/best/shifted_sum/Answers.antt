@@ -1,6 +1,6 @@
 use Rattle.std.proofs.Common.{◌≡◌, ◌+◌, ◌<◌, ◌∙◌, ap, sym, subst, arith}
 use Rattle.unitary_model.specs.Placement.{exchanged}
-use Rattle.sabre_route.specs.Scores.{gain, total}
+use Rattle.sabre_route.specs.Scores.{gain, total_distance}
 use Rattle.sabre_route.proofs.ScoreLaws.{partner-below, total-shift}
 use Rattle.sabre_route.proofs.best.shifted_sum.Goals as goal
 use Rattle.sabre_route.proofs.best.shifted_sum.Goals.{After-shift-before_b}
@@ -14,7 +14,7 @@ shift-before_b-requires-clause-partner c =
     subst (λ k. k < c.args.device.now.size) (sym (c.requires.partner c.args.b c.requires.second)) (partner-below c.args.device.now.size c.args.front.now c.args.b c.requires.second c.requires.within)
 
 -- what goes and what comes, by what was read
-sums : (c : After-shift-before_b) → total c.args.device.now (exchanged c.args.a c.args.b) c.args.front.now + (c.shift-before_a.result.0 + c.shift-before_b.result.0) ≡ c.args.sum + c.shift-before_a.result.1 + c.shift-before_b.result.1
+sums : (c : After-shift-before_b) → total_distance c.args.device.now (exchanged c.args.a c.args.b) c.args.front.now + (c.shift-before_a.result.0 + c.shift-before_b.result.0) ≡ c.args.sum + c.shift-before_a.result.1 + c.shift-before_b.result.1
 sums c =
     let d = c.args.device.now in
     let a = c.args.a in

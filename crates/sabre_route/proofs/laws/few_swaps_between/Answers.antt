@@ -6,7 +6,7 @@ use Rattle.coupling_map.specs.Walks.{IsDiameter}
 use Rattle.unitary_model.specs.Placement.{IsPlacement}
 use Rattle.sabre_route.specs.Ahead.{Ahead}
 use Rattle.sabre_route.specs.Machine.{Event, IsRun, start, State}
-use Rattle.sabre_route.specs.Measures.{bound, bound_by}
+use Rattle.sabre_route.specs.Measures.{swap_bound, bound_by}
 use Rattle.sabre_route.specs.Routing.{emits_cx, swap_count}
 use Rattle.sabre_route.proofs.StretchLaws.{few-between}
 use Rattle.sabre_route.proofs.MeasureLaws.{count-measure, distance-measure, nearer_ones}
@@ -24,7 +24,7 @@ returns c = record { measured = λ ahead d q gs before stretch after u m k h f p
     metric d h = let law = c.distances_on_device.ensures in metric_of law.exact law.short law.symmetric law.zero law.step law.costs law.turned law.near d h
 
     few : (ahead : Ahead) (d : Coupling) (q : List ℕ) (gs : List Gate) (before stretch after : List Event) (u : State) (k : ℕ) → IsCoupling d → IsDiameter d.size d.edges (cost d) k → IsPlacement d.size q → All (IsFine d.size) gs
-        → IsRun ahead d (start q gs) (before ++ stretch ++ after) u → All (λ e. emits_cx e ≡ false) stretch → swap_count stretch ≤ bound d k
+        → IsRun ahead d (start q gs) (before ++ stretch ++ after) u → All (λ e. emits_cx e ≡ false) stretch → swap_count stretch ≤ swap_bound d k
     few ahead d q gs before stretch after u k h far placed fine run none = go d.costs
       where
         go : (o : Option (List ℕ)) → swap_count stretch ≤ bound_by o d.size k

@@ -6,19 +6,19 @@ use Rattle.std.proofs.lemmas.Grind.{common_steps}
 use Rattle.matroid_partition.specs.Partitions.{IsPartition}
 use Rattle.matroid_partition.specs.Spares.{IsSparePartition}
 use Rattle.spare_layers.specs.SparedLayers.{IsAnew}
-use Rattle.phase_poly.specs.Resynthesis.{rows_of}
+use Rattle.phase_poly.specs.Resynthesis.{rows_of_terms}
 use Rattle.phase_poly.proofs.ResynthLaws.{partition-nonzero, poly-terms}
 use Rattle.spare_layers.proofs.AnewLaws.{differ-poly, layer-anew, layer-kept, wide-poly}
 use Rattle.spare_layers.proofs.layer.spared_layer.Goals as goal
 
 pub partition_spares-requires : goal.partition_spares-requires
 partition_spares-requires c =
-    let rows : c.deref.result.now ≡ rows_of c.in_ok-sum.sum.terms = grind (arith, common_steps) in
+    let rows : c.deref.result.now ≡ rows_of_terms c.in_ok-sum.sum.terms = grind (arith, common_steps) in
     record { nonzero = partition-nonzero c.args.wires c.args.list.now c.in_ok-sum.sum c.deref.result.now c.requires.dihedral c.in_ok-sum.ensures.ok rows }
 
 pub partition-requires : goal.partition-requires
 partition-requires c =
-    let rows : c.deref-2.result.now ≡ rows_of c.in_ok-sum.sum.terms = grind (arith, common_steps) in
+    let rows : c.deref-2.result.now ≡ rows_of_terms c.in_ok-sum.sum.terms = grind (arith, common_steps) in
     record { nonzero = partition-nonzero c.args.wires c.args.list.now c.in_ok-sum.sum c.deref-2.result.now c.requires.dihedral c.in_ok-sum.ensures.ok rows }
 
 pub written-requires-clause-map : goal.written-requires-clause-map
@@ -33,9 +33,9 @@ written-requires-clause-differ c = differ-poly c.args.wires c.args.list.now c.in
 
 pub written-requires-clause-partition : goal.written-requires-clause-partition
 written-requires-clause-partition c =
-    let rows : c.deref.result.now ≡ rows_of c.in_ok-sum.sum.terms = grind (arith, common_steps) in
+    let rows : c.deref.result.now ≡ rows_of_terms c.in_ok-sum.sum.terms = grind (arith, common_steps) in
     let blocks : c.deref-then-few-most.result.now ≡ c.in_ok-wide.wide.blocks.items = grind (arith, common_steps) in
-    subst (λ bs. IsSparePartition (rows_of c.in_ok-sum.sum.terms) c.args.spares (map (λ b. b.items) bs)) (sym blocks)
+    subst (λ bs. IsSparePartition (rows_of_terms c.in_ok-sum.sum.terms) c.args.spares (map (λ b. b.items) bs)) (sym blocks)
     (subst (λ (rs : List ℕ). IsSparePartition rs c.args.spares (map (λ b. b.items) c.in_ok-wide.wide.blocks.items)) rows c.in_ok-wide.ensures.partition)
 
 pub written-requires-clause-ascending : goal.written-requires-clause-ascending
@@ -45,7 +45,7 @@ written-requires-clause-ascending c =
 
 pub returns-then-few-most-clause-layer : goal.returns-then-few-most-clause-layer
 returns-then-few-most-clause-layer c =
-    let rows : c.deref.result.now ≡ rows_of c.in_ok-sum.sum.terms = grind (arith, common_steps) in
+    let rows : c.deref.result.now ≡ rows_of_terms c.in_ok-sum.sum.terms = grind (arith, common_steps) in
     let again : c.deref-2.result.now ≡ c.deref.result.now = grind (arith, common_steps) in
     let blocks : c.deref-then-few-most.result.now ≡ c.in_ok-wide.wide.blocks.items = grind (arith, common_steps) in
     let less : vec_len c.in_ok-wide.wide.blocks < vec_len c.in_ok-plain.plain.blocks = grind (arith, common_steps) in
@@ -60,7 +60,7 @@ returns-then-few-most-clause-layer c =
 
 pub returns-clause-layer : goal.returns-clause-layer
 returns-clause-layer c =
-    let rows : c.deref.result.now ≡ rows_of c.in_ok-sum.sum.terms = grind (arith, common_steps) in
+    let rows : c.deref.result.now ≡ rows_of_terms c.in_ok-sum.sum.terms = grind (arith, common_steps) in
     let again : c.deref-2.result.now ≡ c.deref.result.now = grind (arith, common_steps) in
     let least : vec_len c.in_ok-plain.plain.blocks ≤ vec_len c.in_ok-wide.wide.blocks = grind (arith, common_steps) in
     let few : length (map (λ b. b.items) c.in_ok-wide.wide.blocks.items) ≡ vec_len c.in_ok-wide.wide.blocks =

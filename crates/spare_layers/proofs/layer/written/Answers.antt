@@ -2,7 +2,7 @@ use Rattle.std.proofs.Common.{◌≡◌, ◌+◌, ◌-◌, ◌*◌, ◌%◌, ◌
 use Rattle.std.proofs.lemmas.List.{length-map}
 use Rattle.matroid_partition.specs.Spares.{IsSparePartition}
 use Rattle.phase_poly.specs.Polys.{Term}
-use Rattle.phase_poly.specs.Resynthesis.{flip_gates, picked, rows_of}
+use Rattle.phase_poly.specs.Resynthesis.{flip_gates, picked, rows_of_terms}
 use Rattle.spare_layers.specs.SparedLayers.{spare_rows}
 use Rattle.spare_layers.specs.Weaving.{AllDiffer, AnewFor, AreTerms, IsWide, IsWoven}
 use Rattle.spare_layers.proofs.AnewLaws.{anew-done}
@@ -16,7 +16,7 @@ put_blocks-requires-clause-differ c = subst (λ (ts : List Term). AllDiffer ts) 
 
 pub put_blocks-requires-clause-partition : goal.put_blocks-requires-clause-partition
 put_blocks-requires-clause-partition c =
-    subst (λ (ts : List Term). IsSparePartition (rows_of ts) c.args.spares (map (λ b. b.items) c.args.blocks.now)) (sym c.terms.ensures.same) c.requires.partition
+    subst (λ (ts : List Term). IsSparePartition (rows_of_terms ts) c.args.spares (map (λ b. b.items) c.args.blocks.now)) (sym c.terms.ensures.same) c.requires.partition
 
 pub bring-requires-clause-to : goal.bring-requires-clause-to
 bring-requires-clause-to c =

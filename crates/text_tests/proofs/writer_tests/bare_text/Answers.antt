@@ -1,6 +1,6 @@
 use Rattle.std.proofs.Common.{[], refl, lit≤, rules}
 use Rattle.std.proofs.lemmas.List.Elements.{All-from_recursion}
-use Rattle.gate_inline.specs.Registers.{IsFree}
+use Rattle.gate_inline.specs.Registers.{IsFreeRegister}
 use Rattle.text_tests.proofs.writer_tests.bare_text.Goals as goal
 
 pub program_text-requires : goal.program_text-requires
@@ -8,7 +8,7 @@ program_text-requires c = record {
   output =
       record {
         registers = record {
-          each = All-from_recursion IsFree [] tt;
+          each = All-from_recursion IsFreeRegister [] tt;
           different = refl;
           all = refl;
           few = lit≤ tt;

@@ -1,13 +1,13 @@
 use Rattle.std.proofs.Common.{◌∷◌, [], All, refl, codes, lit<, lit≤, rules}
 use Rattle.std.proofs.lemmas.List.Elements.{All-from_recursion}
-use Rattle.gate_inline.specs.Registers.{IsFree}
+use Rattle.gate_inline.specs.Registers.{IsFreeRegister}
 use Rattle.qasm_check.specs.declared.register.ClassicalRegister.{ClassicalRegister}
 use Rattle.qasm_writer.proofs.RowLaws.{no_table_name}
 use Rattle.qasm_writer.proofs.WordLaws.{IsName-underscores}
 use Rattle.text_tests.proofs.writer_tests.later_text.Goals as goal
 
-one_free : (r : ClassicalRegister) → IsFree r → All IsFree (r ∷ [])
-one_free r h = All-from_recursion IsFree (r ∷ []) (h, tt)
+one_free : (r : ClassicalRegister) → IsFreeRegister r → All IsFreeRegister (r ∷ [])
+one_free r h = All-from_recursion IsFreeRegister (r ∷ []) (h, tt)
 
 pub program_text-requires : goal.program_text-requires
 program_text-requires c = record {

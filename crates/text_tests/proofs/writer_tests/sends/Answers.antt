@@ -1,6 +1,6 @@
 use Rattle.std.proofs.Common.{[], refl, lit≤, rules}
 use Rattle.std.proofs.lemmas.List.Elements.{All-from_recursion}
-use Rattle.gate_inline.specs.Registers.{IsFree}
+use Rattle.gate_inline.specs.Registers.{IsFreeRegister}
 use Rattle.text_tests.proofs.writer_tests.sends.Goals as goal
 
 pub write_program-requires : goal.write_program-requires
@@ -8,7 +8,7 @@ write_program-requires c = record {
   output =
       record {
         registers = record {
-          each = All-from_recursion IsFree [] tt;
+          each = All-from_recursion IsFreeRegister [] tt;
           different = refl;
           all = refl;
           few = lit≤ tt;

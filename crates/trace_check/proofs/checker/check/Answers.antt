@@ -5,7 +5,7 @@ use Rattle.rewrite_pass.specs.TraceLines.{words}
 use Rattle.trace_text.specs.Texts.{lines_of}
 use Rattle.trace_check.specs.Outcomes.{IsOutcome, claim}
 use Rattle.trace_check.specs.Progress.{Came, Ends, IsAppended, reached}
-use Rattle.trace_model.specs.Proves.{Claim, IsStuck, StopsAt}
+use Rattle.trace_model.specs.Proves.{Claim, NoLineApplies, StopsAt}
 use Rattle.trace_check.proofs.ProgressLaws.{came-stops}
 use Rattle.trace_check.proofs.RoutedLaws.{IfOk-map}
 use Rattle.trace_check.proofs.StepLaws.{came-heading}
@@ -44,8 +44,8 @@ returns-in_default-2 c = record {
       let h = c.in_ok-reached.ensures.place c.if-not-reached.false e trace 1 wires came refl in
       let qubits : e.qubits ≡ c.wires.result = sym (c.wires.ensures.wires ∙ c.in_ok-goal.ensures.wires) in
       let none = none-of _ c.in_ok-routing.field-0 _ c.in_default-2.is c.in_ok-routing.ensures.place in
-      let stuck : IsStuck e v (reached None t) (words (codes "place") c.rewritten.new.numbers.items ∷ behind) =
-      subst (λ l. IsStuck e v (reached None t) (words (codes "place") l ∷ behind)) c.deref.ensures.value (none e v behind (wires ∙ sym c.in_ok-reached.ensures.wires) qubits) in
+      let stuck : NoLineApplies e v (reached None t) (words (codes "place") c.rewritten.new.numbers.items ∷ behind) =
+      subst (λ l. NoLineApplies e v (reached None t) (words (codes "place") l ∷ behind)) c.deref.ensures.value (none e v behind (wires ∙ sym c.in_ok-reached.ensures.wires) qubits) in
       let line : h.0 + 1 ≡ c.in_ok-reached.reached.mark.line - 1 = omega (arith, h.1.1) in
       subst (StopsAt e trace) line (came-stops e v trace (reached None t) (words (codes "place") c.rewritten.new.numbers.items ∷ behind) h.0 h.1.0 tt stuck);
 }

@@ -4,7 +4,7 @@ use Rattle.circuit_list.specs.declared.Passed.{Passed}
 use Rattle.rewrite_pass.specs.TraceLines.{words}
 use Rattle.trace_text.specs.Texts.{lines_of}
 use Rattle.trace_check.specs.Progress.{Came, IsHeldFit, BlockedWith, LeadsOn, reached}
-use Rattle.trace_model.specs.Proves.{IsStuck}
+use Rattle.trace_model.specs.Proves.{NoLineApplies}
 use Rattle.trace_model.specs.Spelling.{AreSmall, spelling}
 use Rattle.trace_check.specs.declared.goals.Held.{Held}
 use Rattle.trace_check.specs.declared.mark.Mark.{Mark}
@@ -78,7 +78,7 @@ returns-clause-stops c = λ y e trace n q k is.
     came-blocked e v trace old s (lines_of c.lines.mark.text.now) h.0 c.lines.mark.line
     (elim c.match-first_line.branch [
       | in-Some+in_ok-word+in_default-2 w ↦
-          subst (IsStuck e v (reached old s)) (sym w.in-Some.ensures.lines) (stuck-unread e v (reached old s) w.in-Some.line.now (lines_of w.in-Some.text.now) (none-of _ w.in_ok-word.field-0 _ w.in_default-2.is w.in_ok-word.ensures.ok))
+          subst (NoLineApplies e v (reached old s)) (sym w.in-Some.ensures.lines) (stuck-unread e v (reached old s) w.in-Some.line.now (lines_of w.in-Some.text.now) (none-of _ w.in_ok-word.field-0 _ w.in_default-2.is w.in_ok-word.ensures.ok))
       | in-Some+in_ok-word+in-Some-2+then-eq+then-is_some w ↦
           let ks : List ℕ = w.read_line.new.numbers.items in
           let small : AreSmall ks = subst (λ x. AreSmall x.items) w.numbers-is all in
@@ -86,13 +86,13 @@ returns-clause-stops c = λ y e trace n q k is.
           let word : w.in-Some-2.word ≡ kind.Place = search rules in
           let front : w.in-Some.line.now ≡ words (codes "place") ks = first ∙ ap (λ x. words (spelling x) ks) word in
           let lines : lines_of c.lines.mark.text.now ≡ words (codes "place") ks ∷ lines_of w.in-Some.text.now = w.in-Some.ensures.lines ∙ ap (λ l. l ∷ lines_of w.in-Some.text.now) front in
-          subst (IsStuck e v (reached old s)) (sym lines) (stuck-held old s ks (lines_of w.in-Some.text.now) (sym w.is_some.ensures ∙ w.if-is_some.true) small e v wires)
+          subst (NoLineApplies e v (reached old s)) (sym lines) (stuck-held old s ks (lines_of w.in-Some.text.now) (sym w.is_some.ensures ∙ w.if-is_some.true) small e v wires)
       | in-Some+in_ok-word+in-Some-2+else-eq+in_ok-next+in_default-3 w ↦
           let ks : List ℕ = w.read_line.new.numbers.items in
           let first : w.in-Some.line.now ≡ words (spelling w.in-Some-2.word) ks = (some-of _ w.in_ok-word.field-0 w.in-Some-2.word _ w.in-Some-2.is w.in_ok-word.ensures.ok).1 in
           let lines : lines_of c.lines.mark.text.now ≡ words (spelling w.in-Some-2.word) ks ∷ lines_of w.in-Some.text.now = w.in-Some.ensures.lines ∙ ap (λ l. l ∷ lines_of w.in-Some.text.now) first in
           let stands : BlockedWith old s (words (spelling w.in-Some-2.word) ks ∷ lines_of w.in-Some.text.now) = none-of _ w.in_ok-next.field-0 _ w.in_default-3.is w.in_ok-next.ensures.step in
-          subst (IsStuck e v (reached old s)) (sym lines) (stands e v wires)
-      | in_default w ↦ subst (IsStuck e v (reached old s)) (sym w.in_default.ensures.lines) (stuck-nothing e v (reached old s))
+          subst (NoLineApplies e v (reached old s)) (sym lines) (stands e v wires)
+      | in_default w ↦ subst (NoLineApplies e v (reached old s)) (sym w.in_default.ensures.lines) (stuck-nothing e v (reached old s))
     ])
     h.1.0 h.1.1

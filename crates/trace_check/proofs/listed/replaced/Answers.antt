@@ -3,7 +3,7 @@ use Rattle.circuit_list.specs.Gates.{IsFine}
 use Rattle.circuit_list.specs.declared.Passed.{Passed}
 use Rattle.rewrite_pass.specs.TraceLines.{words}
 use Rattle.trace_text.specs.Texts.{lines_of}
-use Rattle.trace_check.specs.Progress.{Leads}
+use Rattle.trace_check.specs.Progress.{LeadsWithHeld}
 use Rattle.trace_model.specs.Spelling.{AreSmall, spelling}
 use Rattle.trace_check.proofs.StepLaws.{blocked-listed, listed-leads, no-count, no-gates, no-same}
 use Rattle.trace_check.proofs.WordLaws.{none-of, some-of}
@@ -52,6 +52,6 @@ returns-clause-step c =
     let wires : c.in-Some-2.listed.body.wires ≡ s.body.wires = h.0 ∙ c.wires.ensures.wires in
     let fine : All (IsFine s.body.wires) c.in-Some-2.listed.body.gates = subst (λ n. All (IsFine n) c.in-Some-2.listed.body.gates) wires c.facts-2.ensures.fine in
     let same = some-of _ c.in_ok-turn.field-0 c.in-Some-3.turn _ c.in-Some-3.is c.in_ok-turn.ensures.same in
-    subst (λ b. Leads c.args.word s (record { body = b; turn = c.turn_sum-state.result }) (words (spelling c.args.word) ks ∷ lines) behind) (sym c.link.ensures.same)
+    subst (λ b. LeadsWithHeld c.args.word s (record { body = b; turn = c.turn_sum-state.result }) (words (spelling c.args.word) ks ∷ lines) behind) (sym c.link.ensures.same)
     (listed-leads c.args.word ks c.in-Some.count s (record { body = c.in-Some-2.listed.body; turn = c.turn_sum-state.result }) c.in-Some-3.turn lines behind small count c.facts.ensures.wires_limit fine h.1.0 h.1.1 same.0 same.1
     c.turn_sum-state.ensures.sum)

@@ -2,8 +2,8 @@ use Rattle.std.proofs.Common.{◌≡◌, ℕ, ◌+◌, ◌-◌, ◌%◌, ◌∙�
 use Rattle.std.specs.Prelude.{codes}
 use Rattle.rewrite_pass.specs.TraceLines.{words}
 use Rattle.trace_text.specs.Texts.{lines_of}
-use Rattle.trace_check.specs.Progress.{Halts, Moves, placed}
-use Rattle.trace_model.specs.Proves.{IsStuck, Placed, Proves, Routed}
+use Rattle.trace_check.specs.Progress.{Halts, Moves, placed_state}
+use Rattle.trace_model.specs.Proves.{NoLineApplies, Placed, Proves, Routed}
 use Rattle.trace_model.specs.Spelling.{AreSmall, spelling}
 use Rattle.trace_model.specs.declared.word.Word.TheVariants as kind
 use Rattle.trace_check.proofs.KindLaws.{stuck-nothing, stuck-unread}
@@ -19,7 +19,7 @@ returns-then-ends c = record {
       λ e trace n old q g f k is.
       let h = c.lines.invariant.came e trace n old q g f k is in
       let ks : List ℕ = c.read_line.new.numbers.items in
-      let s : Placed = placed c.lines.state h.1.0 in
+      let s : Placed = placed_state c.lines.state h.1.0 in
       let first : c.in-Some.first.now ≡ words (spelling c.in-Some-2.word) ks = (some-of _ c.in_ok-word.field-0 c.in-Some-2.word _ c.in-Some-2.is c.in_ok-word.ensures.ok).1 in
       let word : c.in-Some-2.word ≡ kind.End = search rules in
       let none : lines_of c.in-Some.behind.now ≡ [] = empty-lines c.is_empty.result c.in-Some.behind.now c.is_empty.ensures c.if-is_empty.true in
@@ -47,7 +47,7 @@ lines-preserved c =
       came = λ e trace n old q g f k is.
           let h = c.lines.invariant.came e trace n old q g f k is in
           let m = moves h.1.0 h.1.1.0 in
-          let after = routed-more e c.args.edition trace (placed c.lines.state h.1.0) (placed c.routes.new.state m.0) c.in-Some-2.word ks (lines_of c.in-Some.behind.now) (lines_of c.lines.rest.now) h.0
+          let after = routed-more e c.args.edition trace (placed_state c.lines.state h.1.0) (placed_state c.routes.new.state m.0) c.in-Some-2.word ks (lines_of c.in-Some.behind.now) (lines_of c.lines.rest.now) h.0
           (some-of _ c.in_ok-word.field-0 c.in-Some-2.word _ c.in-Some-2.is c.in_ok-word.ensures.ok).0 (q ∙ sym c.lines.invariant.qubits) m.1.1 lines h.1.1.1.0 in
           (h.0 + 1, (m.0, (m.1.0, (after, ap (λ z. z + 1) h.1.1.1.1))));
     }
@@ -57,12 +57,12 @@ returns c = record {
   ok =
       λ e trace n old q g f k is.
       let h = c.lines.invariant.came e trace n old q g f k is in
-      let s : Placed = placed c.lines.state h.1.0 in
+      let s : Placed = placed_state c.lines.state h.1.0 in
       let all : AreSmall c.match-first_line.numbers.items = items-small c.match-first_line.numbers.items c.type_inv.numbers in
       routed-stops e c.args.edition trace s (lines_of c.lines.rest.now) h.0 c.lines.number h.1.1.1.0 h.1.1.1.1
       (elim c.match-first_line.branch [
         | in-Some+in_ok-word+in_default-2 w ↦
-            subst (IsStuck e c.args.edition (Routed s)) (sym w.in-Some.ensures.lines) (stuck-unread e c.args.edition (Routed s) w.in-Some.first.now (lines_of w.in-Some.behind.now) (none-of _ w.in_ok-word.field-0 _ w.in_default-2.is w.in_ok-word.ensures.ok))
+            subst (NoLineApplies e c.args.edition (Routed s)) (sym w.in-Some.ensures.lines) (stuck-unread e c.args.edition (Routed s) w.in-Some.first.now (lines_of w.in-Some.behind.now) (none-of _ w.in_ok-word.field-0 _ w.in_default-2.is w.in_ok-word.ensures.ok))
         | in-Some+in_ok-word+in-Some-2+then-eq+else-is_empty w ↦
             let ks : List ℕ = w.read_line.new.numbers.items in
             let small : AreSmall ks = subst (λ v. AreSmall v.items) w.numbers-is all in
@@ -70,7 +70,7 @@ returns c = record {
             let word : w.in-Some-2.word ≡ kind.End = search rules in
             let front : w.in-Some.first.now ≡ words (codes "end") ks = first ∙ ap (λ v. words (spelling v) ks) word in
             let lines : lines_of c.lines.rest.now ≡ words (codes "end") ks ∷ lines_of w.in-Some.behind.now = w.in-Some.ensures.lines ∙ ap (λ l. l ∷ lines_of w.in-Some.behind.now) front in
-            subst (IsStuck e c.args.edition (Routed s)) (sym lines)
+            subst (NoLineApplies e c.args.edition (Routed s)) (sym lines)
             (elim w.else-is_empty.branch [
               | else-is_empty-via-then-is_empty+else-ends x ↦
                   stuck-unequal e c.args.edition s c.args.goal.now ks (lines_of w.in-Some.behind.now) g small (λ a b d. unended c.args.goal.now.body.gates h.1.0 c.lines.state.agreed (x.if-ends.ensures.no refl (x.deref.ensures.value ∙ a) b) h.1.1.0 d)
@@ -82,7 +82,7 @@ returns c = record {
             let first : w.in-Some.first.now ≡ words (spelling w.in-Some-2.word) ks = (some-of _ w.in_ok-word.field-0 w.in-Some-2.word _ w.in-Some-2.is w.in_ok-word.ensures.ok).1 in
             let lines : lines_of c.lines.rest.now ≡ words (spelling w.in-Some-2.word) ks ∷ lines_of w.in-Some.behind.now = w.in-Some.ensures.lines ∙ ap (λ l. l ∷ lines_of w.in-Some.behind.now) first in
             let halts : Halts w.in-Some-2.word ks s = subst (λ l. Halts w.in-Some-2.word l s) w.deref-in-Some.ensures.value (w.routes.ensures.not w.if-not-routes.true h.1.0) in
-            subst (IsStuck e c.args.edition (Routed s)) (sym lines) (halts e c.args.edition (lines_of w.in-Some.behind.now) (q ∙ sym c.lines.invariant.qubits))
-        | in_default w ↦ subst (IsStuck e c.args.edition (Routed s)) (sym w.in_default.ensures.lines) (stuck-nothing e c.args.edition (Routed s))
+            subst (NoLineApplies e c.args.edition (Routed s)) (sym lines) (halts e c.args.edition (lines_of w.in-Some.behind.now) (q ∙ sym c.lines.invariant.qubits))
+        | in_default w ↦ subst (NoLineApplies e c.args.edition (Routed s)) (sym w.in_default.ensures.lines) (stuck-nothing e c.args.edition (Routed s))
       ]);
 }

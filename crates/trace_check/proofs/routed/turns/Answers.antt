@@ -1,18 +1,18 @@
 use Rattle.std.proofs.Common.{◌++◌, List, refl}
 use Rattle.circuit_list.specs.declared.Gate.{Gate}
-use Rattle.trace_model.specs.Proves.{Routed, turn_cx}
-use Rattle.trace_check.specs.Progress.{placed}
+use Rattle.trace_model.specs.Proves.{Routed, swap_reversed_cx}
+use Rattle.trace_check.specs.Progress.{placed_state}
 use Rattle.trace_check.proofs.RoutedLaws.{numbers-small, turns-goes, turns-halts, stuck-turns}
 use Rattle.trace_check.proofs.routed.turns.Goals as goal
 
 pub returns-in-Some-clause-applies : goal.returns-in-Some-clause-applies
 returns-in-Some-clause-applies c = λ y old is.
     let h = c.turn.ensures.applies y in
-    let new : List Gate = old ++ turn_cx c.in-Some.u c.in-Some.v in
-    (new, (h.1.1.1.1.0 old is, turns-goes (placed c.args.state.now old) (placed c.turn.new.state new) c.args.numbers.now c.in-Some.u c.in-Some.v (numbers-small c.args.numbers.now c.type_inv.numbers) c.in-Some.ensures.found h.0 h.1.0 h.1.1.0 (λ i. (c.turn.ensures.first i).items) h.1.1.1.0 (λ i. (c.turn.ensures.rest i).gates) refl h.1.1.1.1.1))
+    let new : List Gate = old ++ swap_reversed_cx c.in-Some.u c.in-Some.v in
+    (new, (h.1.1.1.1.0 old is, turns-goes (placed_state c.args.state.now old) (placed_state c.turn.new.state new) c.args.numbers.now c.in-Some.u c.in-Some.v (numbers-small c.args.numbers.now c.type_inv.numbers) c.in-Some.ensures.found h.0 h.1.0 h.1.1.0 (λ i. (c.turn.ensures.first i).items) h.1.1.1.0 (λ i. (c.turn.ensures.rest i).gates) refl h.1.1.1.1.1))
 
 pub returns-in-Some-clause-not : goal.returns-in-Some-clause-not
-returns-in-Some-clause-not c = λ n written. turns-halts (placed c.args.state.now written) c.args.numbers.now c.in-Some.u c.in-Some.v (numbers-small c.args.numbers.now c.type_inv.numbers) c.in-Some.ensures.found (c.turn.ensures.not n).0
+returns-in-Some-clause-not c = λ n written. turns-halts (placed_state c.args.state.now written) c.args.numbers.now c.in-Some.u c.in-Some.v (numbers-small c.args.numbers.now c.type_inv.numbers) c.in-Some.ensures.found (c.turn.ensures.not n).0
 
 pub returns-in-None-clause-not : goal.returns-in-None-clause-not
-returns-in-None-clause-not c = λ n written e v behind q. stuck-turns e v (Routed (placed c.args.state.now written)) c.args.numbers.now behind (numbers-small c.args.numbers.now c.type_inv.numbers) c.in-None.ensures.found
+returns-in-None-clause-not c = λ n written e v behind q. stuck-turns e v (Routed (placed_state c.args.state.now written)) c.args.numbers.now behind (numbers-small c.args.numbers.now c.type_inv.numbers) c.in-None.ensures.found

@@ -1,7 +1,7 @@
 use Rattle.std.proofs.Common.{◌≡◌}
 use Rattle.unitary_model.specs.Ring.{turn}
-use Rattle.unitary_reference.specs.Values.{ring_of}
+use Rattle.unitary_reference.specs.Values.{reference_ring}
 use Rattle.unitary_reference.proofs.entries.turned.Given as goal
 
 abbrev pub invariant-loop-step : goal.invariant-loop-step
-invariant-loop-step l = ring_of l.value ≡ turn l.step (ring_of l.fn.v)
+invariant-loop-step l = reference_ring l.value ≡ turn l.step (reference_ring l.fn.v)

@@ -1,7 +1,7 @@
 -- One more call is remembered.
 use Rattle.std.proofs.Common.{map, sym, subst}
-use Rattle.gate_library.specs.Views.{gate as gate_view}
-use Rattle.gate_inline.specs.Progress.{Progress, gates_of}
+use Rattle.gate_library.specs.Views.{gate_view}
+use Rattle.gate_inline.specs.Progress.{Progress, gate_views}
 use Rattle.gate_inline.specs.Remembered.{IsKept}
 use Rattle.gate_inline.proofs.inliner.Inliner.keep.Goals as goal
 
@@ -12,5 +12,5 @@ invariant_of-self c = record {
   quiet = c.self.invariant.quiet;
   kept =
       c.keep.ensures.kept (map gate_view c.self.inside.gates.now) c.self.inside.list.items c.self.invariant.kept
-      (subst (λ (p : Progress). IsKept (gates_of p) p.list c.args.kept) (sym c.self.view_is) c.requires);
+      (subst (λ (p : Progress). IsKept (gate_views p) p.list c.args.kept) (sym c.self.view_is) c.requires);
 }

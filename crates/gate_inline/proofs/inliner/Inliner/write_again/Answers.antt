@@ -1,7 +1,7 @@
 -- A part once more.
 use Rattle.std.proofs.Common.{map, List, sym, subst, ap, ◌∙◌}
 use Rattle.unitary_model.specs.declared.Op.{Op}
-use Rattle.gate_inline.specs.Progress.{IsInliner, Progress, written}
+use Rattle.gate_inline.specs.Progress.{IsInliner, Progress, with_written}
 use Rattle.gate_inline.specs.Remembered.{part}
 use Rattle.gate_inline.proofs.ProgressLaws.{IsInliner-more}
 use Rattle.gate_inline.proofs.inliner.Inliner.write_again.Goals as goal
@@ -17,4 +17,4 @@ invariant_of-self-2 c = IsInliner-more _ _ _ _ _ _ _ _ c.in_ok-extend_from_withi
 pub returns-clause-ok : goal.returns-clause-ok
 returns-clause-ok c =
     (λ i. record { gates = c.self.inside.gates.now; list = c.in_ok-extend_from_within.ensures.items i })
-    ∙ ap (λ (p : Progress). written p (part p.list c.args.start c.args.end)) c.self.view_is
+    ∙ ap (λ (p : Progress). with_written p (part p.list c.args.start c.args.end)) c.self.view_is

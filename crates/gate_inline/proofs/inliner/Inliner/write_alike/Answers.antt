@@ -1,7 +1,7 @@
 -- A call that is remembered, on other wires.
 use Rattle.std.proofs.Common.{List, map, subst, sym, ◌≡◌, ◌++◌, ℕ}
 use Rattle.gate_library.specs.Operands.{wire_at as wire_there}
-use Rattle.gate_library.specs.Views.{gate as gate_view}
+use Rattle.gate_library.specs.Views.{gate_view}
 use Rattle.gate_inline.specs.Remembered.{part}
 use Rattle.gate_inline.specs.Renaming.{IsRenaming, renamed, renamed_op}
 use Rattle.gate_inline.proofs.RenamingLaws.{written_alike}

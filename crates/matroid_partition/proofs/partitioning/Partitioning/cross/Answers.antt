@@ -4,7 +4,7 @@ use Rattle.gf2_linear.specs.Rows.{combined, is_sum}
 use Rattle.matroid_partition.specs.declared.blocks.Block.{Block}
 use Rattle.matroid_partition.specs.declared.search.Node.{Node}
 use Rattle.matroid_partition.specs.Arrangements.{rows_with}
-use Rattle.matroid_partition.specs.Searches.{IsOwn, node_at}
+use Rattle.matroid_partition.specs.Searches.{IsOwn, search_node}
 use Rattle.matroid_partition.proofs.ArrangementLaws.{count-with, state-with}
 use Rattle.matroid_partition.proofs.SearchLaws.{node-row, set-told}
 use Rattle.matroid_partition.proofs.partitioning.Partitioning.cross.Goals as goal
@@ -14,7 +14,7 @@ pub row-requires : goal.row-requires
 row-requires c = record {
   within =
       let rows : List ℕ = rows_with c.args.self.now c.args.new.now in
-      let n : Node = node_at c.args.front.now.nodes.items c.args.node in
+      let n : Node = search_node c.args.front.now.nodes.items c.args.node in
       let e : c.index.result.now ≡ n = get_or_read c.args.front.now.nodes.items c.args.node c.index.result.now c.requires.there c.index.ensures (record { place = 0; parent = 0 }) in
       let next : length c.args.self.now.homes < length rows = (let k : length rows ≡ length c.args.self.now.homes + 1 = count-with c.args.self.now c.args.new.now c.facts.ensures.arranged in omega arith) in
       let l : n.place < length rows = node-row rows c.args.self.now.homes c.args.self.now.blocks c.args.front.now.nodes.items c.args.node c.requires.front.tree next c.requires.there in
@@ -26,7 +26,7 @@ reach-requires-clause-set c =
     let rows : List ℕ = rows_with c.args.self.now c.args.new.now in
     let homes : List ℕ = c.args.self.now.homes in
     let blocks : List Block = c.args.self.now.blocks in
-    let n : Node = node_at c.args.front.now.nodes.items c.args.node in
+    let n : Node = search_node c.args.front.now.nodes.items c.args.node in
     let e : c.index.result.now ≡ n = get_or_read c.args.front.now.nodes.items c.args.node c.index.result.now c.requires.there c.index.ensures (record { place = 0; parent = 0 }) in
     let own : IsOwn homes n c.args.number → ⊥ =
     elim c.else-place-row_count.branch [
@@ -43,7 +43,7 @@ returns-in-None-clause-some c =
     let rows : List ℕ = rows_with c.args.self.now c.args.new.now in
     let homes : List ℕ = c.args.self.now.homes in
     let blocks : List Block = c.args.self.now.blocks in
-    let n : Node = node_at c.args.front.now.nodes.items c.args.node in
+    let n : Node = search_node c.args.front.now.nodes.items c.args.node in
     let e : c.index.result.now ≡ n = get_or_read c.args.front.now.nodes.items c.args.node c.index.result.now c.requires.there c.index.ensures (record { place = 0; parent = 0 }) in
     let own : IsOwn homes n c.args.number → ⊥ =
     elim c.else-place-row_count.branch [

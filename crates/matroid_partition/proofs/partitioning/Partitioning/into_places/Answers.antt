@@ -2,7 +2,7 @@ use Rattle.std.proofs.Common.{List, ℕ, length, map, subst, sym, ap, ◌∙◌}
 use Rattle.std.proofs.lemmas.List.{length-map}
 use Rattle.matroid_partition.specs.declared.blocks.Block.{Block}
 use Rattle.matroid_partition.specs.Arrangements.{Arrangement}
-use Rattle.matroid_partition.specs.Blocks.{values}
+use Rattle.matroid_partition.specs.Blocks.{referenced_rows}
 use Rattle.matroid_partition.specs.Partitions.{IsPartition}
 use Rattle.matroid_partition.proofs.PartLaws.{IsPartition-state, ascending-state}
 use Rattle.matroid_partition.proofs.partitioning.Partitioning.into_places.Goals as goal
@@ -11,11 +11,11 @@ pub returns-clause-partition : goal.returns-clause-partition
 returns-clause-partition c =
     let lists : List (List ℕ) = map (λ b. b.items) c.in_ok-lists.lists.items in
     subst (λ (a : Arrangement). IsPartition a.rows lists) c.self.view_is
-    (IsPartition-state (values c.self.inside.rows.items) c.self.inside.homes.items c.self.inside.blocks.items lists c.self.invariant.arranged.state c.self.invariant.arranged.count c.in_ok-lists.ensures.ok)
+    (IsPartition-state (referenced_rows c.self.inside.rows.items) c.self.inside.homes.items c.self.inside.blocks.items lists c.self.invariant.arranged.state c.self.invariant.arranged.count c.in_ok-lists.ensures.ok)
 
 pub returns-clause-ascending : goal.returns-clause-ascending
 returns-clause-ascending c =
-    ascending-state (values c.self.inside.rows.items) c.self.inside.homes.items c.self.inside.blocks.items (map (λ b. b.items) c.in_ok-lists.lists.items) c.self.invariant.arranged.state
+    ascending-state (referenced_rows c.self.inside.rows.items) c.self.inside.homes.items c.self.inside.blocks.items (map (λ b. b.items) c.in_ok-lists.lists.items) c.self.invariant.arranged.state
     c.in_ok-lists.ensures.ok
 
 pub returns-clause-count : goal.returns-clause-count

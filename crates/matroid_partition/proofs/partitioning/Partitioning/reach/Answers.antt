@@ -5,7 +5,7 @@ use Rattle.matroid_partition.specs.declared.search.Front.{Front}
 use Rattle.matroid_partition.specs.declared.search.Node.{Node}
 use Rattle.matroid_partition.specs.Places.{Has}
 use Rattle.matroid_partition.specs.Blocks.{places_at}
-use Rattle.matroid_partition.specs.Searches.{IsFront, IsMember, IsSeen, IsSet, node_at}
+use Rattle.matroid_partition.specs.Searches.{IsFront, IsMember, IsSeen, IsSet, search_node}
 use Rattle.matroid_partition.proofs.PlaceLaws.{at-Has}
 use Rattle.matroid_partition.specs.Arrangements.{rows_with}
 use Rattle.matroid_partition.proofs.ArrangementLaws.{state-with}
@@ -60,11 +60,11 @@ visit-requires-clause-member c =
     let e : ps ≡ places_at blocks c.args.number =
     c.deref-place-items.ensures.value ∙ ap (λ (b : Block). b.places.items) (c.block-block.ensures.value c.block-block.result.now) ∙ sym (places_at-is blocks c.args.number c.block-block.result.now c.requires.block) in
     let l : c.members.member < length (places_at blocks c.args.number) = subst (λ (q : List ℕ). c.members.member < length q) e c.members-test.true in
-    subst (λ (q : List ℕ). IsMember rows homes blocks (node_at c.members.front.nodes.items c.args.node) (get_or homes (get_or q c.members.member 0) 0) (get_or q c.members.member 0)) (sym e)
-    (subst (λ k. IsMember rows homes blocks (node_at c.members.front.nodes.items c.args.node) k (get_or (places_at blocks c.args.number) c.members.member 0))
+    subst (λ (q : List ℕ). IsMember rows homes blocks (search_node c.members.front.nodes.items c.args.node) (get_or homes (get_or q c.members.member 0) 0) (get_or q c.members.member 0)) (sym e)
+    (subst (λ k. IsMember rows homes blocks (search_node c.members.front.nodes.items c.args.node) k (get_or (places_at blocks c.args.number) c.members.member 0))
     (sym ((state-with c.args.self.now c.args.new.now c.facts.ensures.arranged).only c.args.number (get_or (places_at blocks c.args.number) c.members.member 0) (at-Has (places_at blocks c.args.number) c.members.member 0 l)).1)
     (subst (λ (n : Node). IsMember rows homes blocks n c.args.number (get_or (places_at blocks c.args.number) c.members.member 0)) (sym c.members.invariant.same)
-    (set-member rows homes blocks (node_at c.args.front.now.nodes.items c.args.node) c.args.number c.args.set.now c.members.member (state-with c.args.self.now c.args.new.now c.facts.ensures.arranged) c.requires.set l
+    (set-member rows homes blocks (search_node c.args.front.now.nodes.items c.args.node) c.args.number c.args.set.now c.members.member (state-with c.args.self.now c.args.new.now c.facts.ensures.arranged) c.requires.set l
     (c.has.ensures.value.0 c.if-has.true))))
 
 pub members-preserved : goal.members-preserved
@@ -73,7 +73,7 @@ members-preserved c =
     let blocks : List Block = c.args.self.now.blocks in
     let homes : List ℕ = c.args.self.now.homes in
     let ps : List ℕ = c.deref-place-items.result.now in
-    let start : Node = node_at c.args.front.now.nodes.items c.args.node in
+    let start : Node = search_node c.args.front.now.nodes.items c.args.node in
     elim c.if-has.branch [
       | then-has+in_ok-chain+in_default w ↦
           let f = rw w.in_default.is at w.in_ok-chain.ensures.none in
@@ -100,7 +100,7 @@ returns-clause-none c =
     let e : ps ≡ places_at blocks c.args.number =
     c.deref-place-items.ensures.value ∙ ap (λ (b : Block). b.places.items) (c.block-block.ensures.value c.block-block.result.now) ∙ sym (places_at-is blocks c.args.number c.block-block.result.now c.requires.block) in
     front-through rows homes blocks c.members.front.nodes.items c.members.front.seen.items c.args.node c.args.number c.members.invariant.kept
-    (set-through rows homes blocks c.members.front.seen.items (node_at c.members.front.nodes.items c.args.node) c.args.number c.args.set.now (state-with c.args.self.now c.args.new.now c.facts.ensures.arranged)
+    (set-through rows homes blocks c.members.front.seen.items (search_node c.members.front.nodes.items c.args.node) c.args.number c.args.set.now (state-with c.args.self.now c.args.new.now c.facts.ensures.arranged)
     (subst (λ (n : Node). IsSet rows homes blocks n c.args.number c.args.set.now) (sym c.members.invariant.same) c.requires.set)
     (λ m l b. subst (λ (q : List ℕ). IsSeen c.members.front.seen.items (get_or q m 0)) e
     (let k : m < length ps = subst (λ (q : List ℕ). m < length q) (sym e) l in c.members.invariant.part m (omega arith) b)))

@@ -2,7 +2,7 @@ use Rattle.std.proofs.Common.{◌≡◌, ◌<◌, ◌++◌, ◌∷◌, [], List,
 use Rattle.std.proofs.lemmas.List.{get_or_read, get_or-set_same}
 use Rattle.matroid_partition.specs.declared.search.Node.{Node}
 use Rattle.matroid_partition.specs.Blocks.{HasRoomAt}
-use Rattle.matroid_partition.specs.Searches.{IsChain, IsFront, node_at}
+use Rattle.matroid_partition.specs.Searches.{IsChain, IsFront, search_node}
 use Rattle.matroid_partition.specs.Arrangements.{rows_with}
 use Rattle.matroid_partition.proofs.ArrangementLaws.{state-with}
 use Rattle.matroid_partition.proofs.StateLaws.{any-block}
@@ -12,14 +12,14 @@ use Rattle.matroid_partition.proofs.partitioning.Partitioning.visit.Goals as goa
 pub index-requires : goal.index-requires
 index-requires c =
     let l : c.args.place < length c.args.self.now.homes =
-    member-old (rows_with c.args.self.now c.args.new.now) c.args.self.now.homes c.args.self.now.blocks (node_at c.args.front.now.nodes.items c.args.node)
+    member-old (rows_with c.args.self.now c.args.new.now) c.args.self.now.homes c.args.self.now.blocks (search_node c.args.front.now.nodes.items c.args.node)
     (get_or c.args.self.now.homes c.args.place 0) c.args.place (state-with c.args.self.now c.args.new.now c.facts.ensures.arranged) c.requires.member in
     omega (arith, c.requires.front.long, c.args.front.now.seen.ok.0)
 
 pub returns-then-index-clause-seen : goal.returns-then-index-clause-seen
 returns-then-index-clause-seen c =
     let l : c.args.place < length c.args.self.now.homes =
-    member-old (rows_with c.args.self.now c.args.new.now) c.args.self.now.homes c.args.self.now.blocks (node_at c.args.front.now.nodes.items c.args.node)
+    member-old (rows_with c.args.self.now c.args.new.now) c.args.self.now.homes c.args.self.now.blocks (search_node c.args.front.now.nodes.items c.args.node)
     (get_or c.args.self.now.homes c.args.place 0) c.args.place (state-with c.args.self.now c.args.new.now c.facts.ensures.arranged) c.requires.member in
     let s : c.args.place < length c.args.front.now.seen.items = omega (arith, c.requires.front.long) in
     sym (get_or_read c.args.front.now.seen.items c.args.place c.index.result.now s c.index.ensures false) ∙ c.if-index.true
@@ -27,21 +27,21 @@ returns-then-index-clause-seen c =
 pub index_mut-requires : goal.index_mut-requires
 index_mut-requires c =
     let l : c.args.place < length c.args.self.now.homes =
-    member-old (rows_with c.args.self.now c.args.new.now) c.args.self.now.homes c.args.self.now.blocks (node_at c.args.front.now.nodes.items c.args.node)
+    member-old (rows_with c.args.self.now c.args.new.now) c.args.self.now.homes c.args.self.now.blocks (search_node c.args.front.now.nodes.items c.args.node)
     (get_or c.args.self.now.homes c.args.place 0) c.args.place (state-with c.args.self.now c.args.new.now c.facts.ensures.arranged) c.requires.member in
     omega (arith, c.requires.front.long, c.args.front.now.seen.ok.0)
 
 pub room_for-requires : goal.room_for-requires
 room_for-requires c = record {
   old =
-      member-old (rows_with c.args.self.now c.args.new.now) c.args.self.now.homes c.args.self.now.blocks (node_at c.args.front.now.nodes.items c.args.node)
+      member-old (rows_with c.args.self.now c.args.new.now) c.args.self.now.homes c.args.self.now.blocks (search_node c.args.front.now.nodes.items c.args.node)
       (get_or c.args.self.now.homes c.args.place 0) c.args.place (state-with c.args.self.now c.args.new.now c.facts.ensures.arranged) c.requires.member;
 }
 
 pub returns-in-None-clause-none : goal.returns-in-None-clause-none
 returns-in-None-clause-none c =
     let l : c.args.place < length c.args.self.now.homes =
-    member-old (rows_with c.args.self.now c.args.new.now) c.args.self.now.homes c.args.self.now.blocks (node_at c.args.front.now.nodes.items c.args.node)
+    member-old (rows_with c.args.self.now c.args.new.now) c.args.self.now.homes c.args.self.now.blocks (search_node c.args.front.now.nodes.items c.args.node)
     (get_or c.args.self.now.homes c.args.place 0) c.args.place (state-with c.args.self.now c.args.new.now c.facts.ensures.arranged) c.requires.member in
     let s : c.args.place < length c.args.front.now.seen.items = omega (arith, c.requires.front.long) in
     let unseen : get_or c.args.front.now.seen.items c.args.place false ≡ false =
@@ -54,7 +54,7 @@ returns-in-None-clause-none c =
 pub returns-in-None-clause-seen : goal.returns-in-None-clause-seen
 returns-in-None-clause-seen c =
     let l : c.args.place < length c.args.self.now.homes =
-    member-old (rows_with c.args.self.now c.args.new.now) c.args.self.now.homes c.args.self.now.blocks (node_at c.args.front.now.nodes.items c.args.node)
+    member-old (rows_with c.args.self.now c.args.new.now) c.args.self.now.homes c.args.self.now.blocks (search_node c.args.front.now.nodes.items c.args.node)
     (get_or c.args.self.now.homes c.args.place 0) c.args.place (state-with c.args.self.now c.args.new.now c.facts.ensures.arranged) c.requires.member in
     let s : c.args.place < length c.args.front.now.seen.items = omega (arith, c.requires.front.long) in
     get_or-set_same c.args.front.now.seen.items c.args.place true false s
@@ -62,7 +62,7 @@ returns-in-None-clause-seen c =
 pub returns-in-Some-clause-some : goal.returns-in-Some-clause-some
 returns-in-Some-clause-some c =
     let l : c.args.place < length c.args.self.now.homes =
-    member-old (rows_with c.args.self.now c.args.new.now) c.args.self.now.homes c.args.self.now.blocks (node_at c.args.front.now.nodes.items c.args.node)
+    member-old (rows_with c.args.self.now c.args.new.now) c.args.self.now.homes c.args.self.now.blocks (search_node c.args.front.now.nodes.items c.args.node)
     (get_or c.args.self.now.homes c.args.place 0) c.args.place (state-with c.args.self.now c.args.new.now c.facts.ensures.arranged) c.requires.member in
     let s : c.args.place < length c.args.front.now.seen.items = omega (arith, c.requires.front.long) in
     let unseen : get_or c.args.front.now.seen.items c.args.place false ≡ false =

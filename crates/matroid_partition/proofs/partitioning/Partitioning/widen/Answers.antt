@@ -2,7 +2,7 @@ use Rattle.std.proofs.Common.{◌≡◌, ◌++◌, ◌∷◌, [], ℕ, List, len
 use Rattle.std.specs.List.{range_with_len}
 use Rattle.gf2_linear.specs.Rows.{is_sum}
 use Rattle.matroid_partition.specs.Arrangements.{Arrangement, IsPartitioning}
-use Rattle.matroid_partition.specs.Blocks.{IsOpen, values}
+use Rattle.matroid_partition.specs.Blocks.{AreOthersFull, referenced_rows}
 use Rattle.matroid_partition.proofs.OpenLaws.{IsOpen-all}
 use Rattle.matroid_partition.proofs.PartitioningLaws.{inserted, inserted-kept, inserted-row, widened-kept}
 use Rattle.matroid_partition.proofs.partitioning.Partitioning.widen.Goals as goal
@@ -21,16 +21,16 @@ returns-then-spans c = record {
 
 pub invariant_of-self : goal.invariant_of-self
 invariant_of-self c =
-    subst (λ (q : List ℕ). IsPartitioning (record { rows = values c.self.inside.rows.items; homes = c.self.inside.homes.items; blocks = c.self.inside.blocks.items; all = q }) c.self.inside.unfilled.items)
+    subst (λ (q : List ℕ). IsPartitioning (record { rows = referenced_rows c.self.inside.rows.items; homes = c.self.inside.homes.items; blocks = c.self.inside.blocks.items; all = q }) c.self.inside.unfilled.items)
     (sym c.in_err-_is_new.ensures.err) c.self.invariant
 
 pub invariant_of-self-2 : goal.invariant_of-self-2
 invariant_of-self-2 c =
     let new : c.insert.new.self ≡ c.self.inside.all ++ c.args.row.now ∷ [] =
     inserted c.self.inside.all c.insert.new.self c.args.row.now c.in_ok-_is_new._is_new (sym c.spans.ensures.value ∙ c.if-spans.false) c.in_ok-_is_new.ensures.told c.in_ok-_is_new.ensures.ok in
-    widened-kept (record { rows = values c.self.inside.rows.items; homes = c.self.inside.homes.items; blocks = c.self.inside.blocks.items; all = c.self.inside.all }) c.self.inside.unfilled.items
+    widened-kept (record { rows = referenced_rows c.self.inside.rows.items; homes = c.self.inside.homes.items; blocks = c.self.inside.blocks.items; all = c.self.inside.all }) c.self.inside.unfilled.items
     c.insert.new.self c.in_ok-unfilled.unfilled.items c.self.invariant
-    (subst (λ (q : List ℕ). IsOpen (length c.insert.new.self) c.self.inside.blocks.items q) (sym (c.in_ok-unfilled.ensures.ok ∙ ap (range_with_len 0) (c.len.ensures ∙ c.self.inside.blocks.ok.0)))
+    (subst (λ (q : List ℕ). AreOthersFull (length c.insert.new.self) c.self.inside.blocks.items q) (sym (c.in_ok-unfilled.ensures.ok ∙ ap (range_with_len 0) (c.len.ensures ∙ c.self.inside.blocks.ok.0)))
     (IsOpen-all (length c.insert.new.self) c.self.inside.blocks.items))
     (inserted-kept c.self.inside.all c.insert.new.self c.args.row.now new)
 

@@ -8,7 +8,7 @@ use Rattle.path_parity.specs.declared.label.Label.{Label}
 use Rattle.path_parity.specs.PathSum.{label, add_labels}
 use Rattle.path_parity.specs.Sets.{label_of}
 use Rattle.path_sums.specs.Names.{IsTouched, number_by, place_in}
-use Rattle.path_sums.specs.Sums.{NamedWalk, Passes}
+use Rattle.path_sums.specs.Sums.{NamedWalk, PassesGate}
 use Rattle.path_sums.proofs.NameLaws.{passes-x, passes-cx, viewed}
 use Rattle.path_sums.proofs.TouchedLaws.{label-there, placed}
 use Rattle.path_sums.proofs.sums.Walk.pass.Goals as goal
@@ -27,9 +27,9 @@ returns-in-X-clause-passes c =
     let bit_here = label-there a.wires ws a.labels.items q c.index.result.now lt (c.index.ensures ∙ ap (λ p. get_or a.labels.items p c.index.result.now) place) in
     let l : Label = record { set = c.index_mut.result.now.set; bit = not c.index.result.now.bit } in
     let was : NamedWalk = viewed a.wires ws a.labels.items a.seen.items a.sets.entries in
-    subst (λ (g : Gate). Passes (number_by c.args.self.now.wires c.args.names.now.keys) g c.args.self.now (viewed a.wires ws (set a.labels.items c.place_in-place.result l) a.seen.items a.sets.entries)) (sym c.in-X.is)
-    (subst (λ (old : NamedWalk). Passes (number_by old.wires c.args.names.now.keys) (X q) old (viewed a.wires ws (set a.labels.items c.place_in-place.result l) a.seen.items a.sets.entries)) c.self.view_is
-    (subst (λ p. Passes r (X q) was (viewed a.wires ws (set a.labels.items p l) a.seen.items a.sets.entries)) (sym place)
+    subst (λ (g : Gate). PassesGate (number_by c.args.self.now.wires c.args.names.now.keys) g c.args.self.now (viewed a.wires ws (set a.labels.items c.place_in-place.result l) a.seen.items a.sets.entries)) (sym c.in-X.is)
+    (subst (λ (old : NamedWalk). PassesGate (number_by old.wires c.args.names.now.keys) (X q) old (viewed a.wires ws (set a.labels.items c.place_in-place.result l) a.seen.items a.sets.entries)) c.self.view_is
+    (subst (λ p. PassesGate r (X q) was (viewed a.wires ws (set a.labels.items p l) a.seen.items a.sets.entries)) (sym place)
     (passes-x a.wires r ws a.labels.items a.seen.items a.sets.entries q l on c.self.invariant.labelled (λ i. label (set_here i).variables (not (bit_here i).bit)))))
 
 pub returns-in_ok-write_sum-in-Cx-clause-passes : goal.returns-in_ok-write_sum-in-Cx-clause-passes
@@ -50,8 +50,8 @@ returns-in_ok-write_sum-in-Cx-clause-passes c =
     let target = label-there a.wires ws a.labels.items t c.index-in-Cx.result.now lt (c.index-in-Cx.ensures ∙ ap (λ p. get_or a.labels.items p c.index-in-Cx.result.now) at_target) in
     let control = label-there a.wires ws a.labels.items d c.index-in-Cx-2.result.now ld (c.index-in-Cx-2.ensures ∙ ap (λ p. get_or a.labels.items p c.index-in-Cx-2.result.now) at_control) in
     let was : NamedWalk = viewed a.wires ws a.labels.items a.seen.items a.sets.entries in
-    subst (λ (g : Gate). Passes (number_by c.args.self.now.wires c.args.names.now.keys) g c.args.self.now (viewed a.wires ws (set a.labels.items c.place_in-target.result c.swap.new.x) a.seen.items a.sets.entries)) (sym c.in-Cx.is)
-    (subst (λ (old : NamedWalk). Passes (number_by old.wires c.args.names.now.keys) (Cx d t) old (viewed a.wires ws (set a.labels.items c.place_in-target.result c.swap.new.x) a.seen.items a.sets.entries)) c.self-in-Cx.view_is
-    (subst (λ p. Passes r (Cx d t) was (viewed a.wires ws (set a.labels.items p c.swap.new.x) a.seen.items a.sets.entries)) (sym at_target)
+    subst (λ (g : Gate). PassesGate (number_by c.args.self.now.wires c.args.names.now.keys) g c.args.self.now (viewed a.wires ws (set a.labels.items c.place_in-target.result c.swap.new.x) a.seen.items a.sets.entries)) (sym c.in-Cx.is)
+    (subst (λ (old : NamedWalk). PassesGate (number_by old.wires c.args.names.now.keys) (Cx d t) old (viewed a.wires ws (set a.labels.items c.place_in-target.result c.swap.new.x) a.seen.items a.sets.entries)) c.self-in-Cx.view_is
+    (subst (λ p. PassesGate r (Cx d t) was (viewed a.wires ws (set a.labels.items p c.swap.new.x) a.seen.items a.sets.entries)) (sym at_target)
     (passes-cx a.wires r ws a.labels.items a.seen.items a.sets.entries d t c.swap.new.x ont c.self-in-Cx.invariant.labelled
     (ap label_of c.swap.ensures.x_after ∙ c.in_ok-write_sum-in-Cx.ensures.sum ∙ (λ i. add_labels (target i) (control i))))))

@@ -11,7 +11,7 @@ use Rattle.path_parity.specs.NamedSums.{set_before}
 use Rattle.path_parity.specs.PathSum.{PathLabel, fresh}
 use Rattle.path_parity.specs.Sets.{IsLabel, IsPacked, label_of, set_of}
 use Rattle.path_sums.specs.Names.{counts, labels_on, number_by, place_in}
-use Rattle.path_sums.specs.Sums.{IsCompact, IsWalk, NamedWalk, Passes, befores, compact_set}
+use Rattle.path_sums.specs.Sums.{IsCompact, IsNamedWalk, NamedWalk, PassesGate, befores, compact_set}
 use Rattle.path_sums.proofs.NameLaws.{IsWalk-had, absent, count-here, passes-h, viewed}
 use Rattle.path_sums.proofs.TouchedLaws.{label-there}
 use Rattle.path_sums.proofs.SparseLaws.{compact_set-compact}
@@ -47,8 +47,8 @@ invariant_of-self-2 c =
     let old_label : IsLabel c.index-label.result.now = subst IsLabel (sym c.index-label.ensures) (c.self.invariant.packed place c.index-label.result.now at) in
     let made : IsCompact row.items = record { row = c.deref.result.now; packed = subst IsPacked (sym c.deref.ensures.value) old_label; words = c.in_ok-set.ensures } in
     let fresh_label : IsLabel c.swap.new.x = subst IsLabel (sym c.swap.ensures.x_after) c.in_ok-write_fresh.ensures.packed in
-    subst (λ es. IsWalk a.wires ws (set a.labels.items place c.swap.new.x) (set a.seen.items place c.in_ok-seen.seen) es) (sym grown)
-    (subst (λ xs. IsWalk a.wires ws (set a.labels.items place c.swap.new.x) xs (a.sets.entries ++ (suc (counts ws a.seen.items q) * a.wires + q, row) ∷ [])) (sym (λ i. set a.seen.items (is i) (seen i)))
+    subst (λ es. IsNamedWalk a.wires ws (set a.labels.items place c.swap.new.x) (set a.seen.items place c.in_ok-seen.seen) es) (sym grown)
+    (subst (λ xs. IsNamedWalk a.wires ws (set a.labels.items place c.swap.new.x) xs (a.sets.entries ++ (suc (counts ws a.seen.items q) * a.wires + q, row) ∷ [])) (sym (λ i. set a.seen.items (is i) (seen i)))
     (IsWalk-had a.wires ws a.labels.items (set a.labels.items place c.swap.new.x) a.seen.items a.sets.entries q row c.self.invariant lt on made
     (length-set a.labels.items place c.swap.new.x ∙ c.self.invariant.labelled) (All-set IsLabel a.labels.items place c.swap.new.x fresh_label c.self.invariant.packed)))
 
@@ -81,9 +81,9 @@ returns-clause-passes c =
     let names = c.args.names.now.keys in
     let r = number_by a.wires names in
     let was : NamedWalk = viewed a.wires ws a.labels.items a.seen.items a.sets.entries in
-    subst (λ (old : NamedWalk). Passes (number_by old.wires names) (H q) old (viewed a.wires ws (set a.labels.items place c.swap.new.x) (set a.seen.items place c.in_ok-seen.seen) c.insert.new.self.entries)) c.self.view_is
-    (subst (λ es. Passes r (H q) was (viewed a.wires ws (set a.labels.items place c.swap.new.x) (set a.seen.items place c.in_ok-seen.seen) es)) (sym grown)
-    (subst (λ ls. Passes r (H q) was (viewed a.wires ws ls (set a.seen.items place c.in_ok-seen.seen) (a.sets.entries ++ (suc (counts ws a.seen.items q) * a.wires + q, row) ∷ []))) (sym (λ i. set a.labels.items (is i) c.swap.new.x))
-    (subst (λ xs. Passes r (H q) was (viewed a.wires ws (set a.labels.items (place_in ws q) c.swap.new.x) xs (a.sets.entries ++ (suc (counts ws a.seen.items q) * a.wires + q, row) ∷ []))) (sym (λ i. set a.seen.items (is i) (seen i)))
+    subst (λ (old : NamedWalk). PassesGate (number_by old.wires names) (H q) old (viewed a.wires ws (set a.labels.items place c.swap.new.x) (set a.seen.items place c.in_ok-seen.seen) c.insert.new.self.entries)) c.self.view_is
+    (subst (λ es. PassesGate r (H q) was (viewed a.wires ws (set a.labels.items place c.swap.new.x) (set a.seen.items place c.in_ok-seen.seen) es)) (sym grown)
+    (subst (λ ls. PassesGate r (H q) was (viewed a.wires ws ls (set a.seen.items place c.in_ok-seen.seen) (a.sets.entries ++ (suc (counts ws a.seen.items q) * a.wires + q, row) ∷ []))) (sym (λ i. set a.labels.items (is i) c.swap.new.x))
+    (subst (λ xs. PassesGate r (H q) was (viewed a.wires ws (set a.labels.items (place_in ws q) c.swap.new.x) xs (a.sets.entries ++ (suc (counts ws a.seen.items q) * a.wires + q, row) ∷ []))) (sym (λ i. set a.seen.items (is i) (seen i)))
     (passes-h a.wires r ws a.labels.items a.seen.items a.sets.entries q c.swap.new.x row on c.self.invariant.labelled c.self.invariant.counted
     (ap label_of c.swap.ensures.x_after ∙ c.in_ok-write_fresh.ensures.label ∙ ap fresh (c.in_ok-fresh.ensures ∙ ap r variable)) same_set))))

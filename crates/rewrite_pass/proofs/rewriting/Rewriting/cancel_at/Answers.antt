@@ -3,7 +3,7 @@ use Rattle.std.specs.List.{remove}
 use Rattle.circuit_list.specs.Slots.{place_of}
 use Rattle.commute_rules.specs.declared.Cancel.TheVariants as cancelling
 use Rattle.commute_rules.specs.Reducible.{IsReducible}
-use Rattle.rewrite_pass.specs.Derivations.{Derivation, IsOutcome, IsStepped}
+use Rattle.rewrite_pass.specs.Derivations.{Derivation, CancelsTo, IsStepped}
 use Rattle.rewrite_pass.specs.Traces.{Step, Both}
 use Rattle.rewrite_pass.specs.contracts.rewriting.Rewriting.{the_view}
 use Rattle.rewrite_pass.proofs.DerivationLaws.{derivation_stepped}
@@ -22,7 +22,7 @@ step c d = Both (place_of c.args.first d.body.slots) (place_of c.args.second d.b
 stepped : (c : goal.After-self-1) → IsStepped (step c (before c)) c.args.turn (before c) (after c)
 stepped c =
     let pair = subst (λ (a : Derivation). IsReducible a.body.gates (place_of c.args.first a.body.slots) (place_of c.args.second a.body.slots)) (sym c.self.view_is) c.requires.pair in
-    let outcome = subst (λ (a : Derivation). IsOutcome a.body.gates (place_of c.args.first a.body.slots) (place_of c.args.second a.body.slots) (cancelling.Both c.args.turn)) (sym c.self.view_is) c.requires.outcome in
+    let outcome = subst (λ (a : Derivation). CancelsTo a.body.gates (place_of c.args.first a.body.slots) (place_of c.args.second a.body.slots) (cancelling.Both c.args.turn)) (sym c.self.view_is) c.requires.outcome in
     record {
       continued = record { source = refl; wires = c.remove_at-2.ensures.wires ∙ c.remove_at.ensures.wires; told = c.push_pair.ensures.told };
       step = record {

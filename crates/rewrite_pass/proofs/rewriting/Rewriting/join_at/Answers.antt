@@ -4,7 +4,7 @@ use Rattle.circuit_list.specs.Slots.{place_of}
 use Rattle.commute_rules.specs.Cancels.{with_phase}
 use Rattle.commute_rules.specs.declared.Cancel.TheVariants as cancelling
 use Rattle.commute_rules.specs.Reducible.{IsReducible}
-use Rattle.rewrite_pass.specs.Derivations.{Derivation, IsOutcome, IsStepped}
+use Rattle.rewrite_pass.specs.Derivations.{Derivation, CancelsTo, IsStepped}
 use Rattle.rewrite_pass.specs.Traces.{Step, Join}
 use Rattle.rewrite_pass.specs.contracts.rewriting.Rewriting.{the_view}
 use Rattle.rewrite_pass.proofs.DerivationLaws.{derivation_stepped}
@@ -24,7 +24,7 @@ stepped : (c : goal.After-remove_at) → IsStepped (step c (before c)) 0 (before
 stepped c =
     let b = c.self.inside.body in
     let pair = subst (λ (a : Derivation). IsReducible a.body.gates (place_of c.args.first a.body.slots) (place_of c.args.second a.body.slots)) (sym c.self.view_is) c.requires.pair in
-    let outcome = subst (λ (a : Derivation). IsOutcome a.body.gates (place_of c.args.first a.body.slots) (place_of c.args.second a.body.slots) (cancelling.Merge c.args.k)) (sym c.self.view_is) c.requires.outcome in
+    let outcome = subst (λ (a : Derivation). CancelsTo a.body.gates (place_of c.args.first a.body.slots) (place_of c.args.second a.body.slots) (cancelling.Merge c.args.k)) (sym c.self.view_is) c.requires.outcome in
     let written = c.replace_at.ensures.gates ∙ ap (set b.gates (place_of c.args.first b.slots)) c.with_phase-gate.ensures in
     let same : c.gate_at.result ≡ pair.first = (let e = pair.at_first in let f = c.gate_at.ensures.there in cc) in
     let low : c.self.inside.turn < 8 = c.self.invariant.law.below in

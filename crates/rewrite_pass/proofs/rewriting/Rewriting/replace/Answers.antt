@@ -1,6 +1,6 @@
 use Rattle.std.proofs.Common.{◌≡◌, refl, sym, subst}
 use Rattle.path_parity.specs.NamedSums.{SamePathSum}
-use Rattle.rewrite_pass.specs.Derivations.{Derivation, HasNoMore, IsReplaced}
+use Rattle.rewrite_pass.specs.Derivations.{Derivation, HasNoMore, IsReplacedBy}
 use Rattle.rewrite_pass.specs.Traces.{constants_turn}
 use Rattle.rewrite_pass.specs.contracts.rewriting.Rewriting.{the_view}
 use Rattle.rewrite_pass.proofs.DerivationLaws.{derivation_replaced}
@@ -12,7 +12,7 @@ before c = the_view c.self.inside
 abbrev after : (c : goal.After-self-1) → Derivation
 after c = the_view (record { body = c.args.body; turn = c.turn_sum-self-inside.result; log = c.push_sums.new.self; source = c.self.inside.source })
 
-replaced : (c : goal.After-self-1) → IsReplaced c.args.turn (before c) c.args.body (after c)
+replaced : (c : goal.After-self-1) → IsReplacedBy c.args.turn (before c) c.args.body (after c)
 replaced c = record {
   continued = record { source = refl; wires = subst (λ (a : Derivation). c.args.body.wires ≡ a.body.wires) (sym c.self.view_is) c.requires.wires; told = c.push_sums.ensures.told };
   body = refl;
@@ -31,4 +31,4 @@ invariant_of-self-2 c =
     (replaced c)
 
 pub returns-clause-ok : goal.returns-clause-ok
-returns-clause-ok c = subst (λ (a : Derivation). IsReplaced c.args.turn a c.args.body (after c)) c.self.view_is (replaced c)
+returns-clause-ok c = subst (λ (a : Derivation). IsReplacedBy c.args.turn a c.args.body (after c)) c.self.view_is (replaced c)

@@ -1,13 +1,13 @@
 use Rattle.std.proofs.Common.{◌≡◌, subst, arith}
 use Rattle.unitary_model.specs.Placement.{exchanged}
-use Rattle.sabre_route.specs.Scores.{Judged, total}
+use Rattle.sabre_route.specs.Scores.{Judged, total_distance}
 use Rattle.sabre_route.proofs.LookaheadLaws.{IsLookahead-seen}
 use Rattle.sabre_route.proofs.NearerLaws.{front-short}
 use Rattle.sabre_route.proofs.best.Lookahead.front_after.Goals as goal
 
 pub returns-clause-total : goal.returns-clause-total
 returns-clause-total c =
-    subst (λ (v : Judged). c.shifted_sum.result ≡ total v.device (exchanged c.args.a c.args.b) v.front) c.self.view_is c.shifted_sum.ensures
+    subst (λ (v : Judged). c.shifted_sum.result ≡ total_distance v.device (exchanged c.args.a c.args.b) v.front) c.self.view_is c.shifted_sum.ensures
 
 pub returns-clause-short : goal.returns-clause-short
 returns-clause-short c =
