@@ -110,7 +110,7 @@ z_by_three = (
   ),
 )
   where
-    window : Rattle.rewrite_pass.specs.Windows.IsTurned X hxh 0
+    window : Rattle.rewrite_pass.specs.Windows.IsAroundOne X hxh 0
     window = record {
       q = 0;
       j = 1;
