@@ -85,6 +85,26 @@ class Pieces(ToolTest):
             ran = subprocess.run([self.program, "opt"], stdin=given, capture_output=True, timeout=60)
             return ran.returncode, len(text) - given.seek(0, os.SEEK_CUR)
 
+    def on_device(self, source, sink):
+        """How a run ends that reads one file of the system and writes another."""
+        with open(source, "rb") as given, open(sink, "wb") as written:
+            ran = subprocess.run([self.program, "opt"], stdin=given, stdout=written, stderr=subprocess.PIPE, timeout=60)
+            return ran.returncode, ran.stderr
+
+    def test_files_of_the_system(self):
+        """An endless input, an empty one, and outputs that keep nothing and take nothing; what can't be read is in `cases/`."""
+        self.assertEqual(self.on_device("/dev/zero", "/dev/full"), (3, b'{"code":60,"fault":"TextTooLong","status":3}\n'))
+        self.assertEqual(self.on_device("/dev/null", "/dev/full"), (3, b'{"code":12,"fault":"Syntax","place":0,"status":3}\n'))
+        path = self.file("given", HEADING)
+        self.assertEqual(self.on_device(path, "/dev/null")[0], 0)
+        self.assertEqual(self.on_device(path, "/dev/full"), (6, FAILED))
+
+    def test_a_device_that_is_no_text(self):
+        self.file("e", b"qubits = 1\nedges = [] # \xff")
+        words = [self.program, "route", "--device", "e", "--trivial"]
+        ran = subprocess.run(words, input=HEADING + b"qreg q[1];", capture_output=True, timeout=60, cwd=self.room)
+        self.assertEqual((ran.returncode, ran.stdout, ran.stderr), (4, b"", b'{"code":50,"fault":"DeviceText","status":4}\n'))
+
     def test_what_is_too_long_is_left(self):
         """Not more than the limit and one byte is read."""
         for size, rest in ((4194304, 0), (4194305, 0), (4194400, 95)):

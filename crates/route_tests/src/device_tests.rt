@@ -1,14 +1,9 @@
-//! Device texts: devices with their answers. Texts that are refused stand in `cases/devices.txt`.
+//! Device texts: devices with their answers. Texts that are refused stand in `cases/devices.txt`, and bytes that are no text in
+//! `tools/tests/test_pieces.py`.
 
-use coupling_map::{Device, DeviceError, DeviceFault, read_device};
+use coupling_map::{Device, DeviceError, read_device};
 use std::alloc::Global;
 use test_rows::{Wrong, each_row, field, numbers, small, word};
-
-#[test]
-fn refuses_bytes_that_are_no_text(rt: HostRuntime) {
-    let read = read_device(rt.alloc(), b"qubits = 1\nedges = [] # \xff".as_slice());
-    assert!(rt; matches!(read, Err(DeviceError::Refused(DeviceFault::Text))));
-}
 
 /// Whether a device has the size, the format and the diameter of a row, and qubit 0 these neighbours.
 fn has_shape(device: &Device, row: &str, near: &[u32]) -> bool {
