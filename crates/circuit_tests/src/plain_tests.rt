@@ -147,8 +147,12 @@ fn is_next(circuit: &Circuit, plain: &Plain, place: usize) -> bool {
     let slot = circuit.slot(place);
     let (first, second) = circuit.gate_at(slot).wires();
     let second = second.unwrap_or(first);
-    (circuit.prev_on(slot, first), circuit.next_on(slot, first)) == plain.near(place, first)
-        && (circuit.prev_on(slot, second), circuit.next_on(slot, second)) == plain.near(place, second)
+    let (last, next) = plain.near(place, first);
+    let (other_last, other_next) = plain.near(place, second);
+    circuit.prev_on(slot, first) == last
+        && circuit.next_on(slot, first) == next
+        && circuit.prev_on(slot, second) == other_last
+        && circuit.next_on(slot, second) == other_next
 }
 
 /// Whether all other answers at one place are those of the plain list, and the first slot from some other slot on, which may have
