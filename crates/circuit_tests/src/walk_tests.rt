@@ -3,10 +3,9 @@
 ghost use Rattle.std.specs.Prelude.{◌≡◌, true};
 ghost use Rattle.circuit_list.specs.Slots.{IsLive, is_on_at, place_of};
 
-use crate::circuits::has_gates;
 use circuit_list::{Circuit, Slot};
 use std::alloc::{AllocError, Global};
-use test_circuits::circuit_of_text;
+use test_circuits::{circuit_of_text, has_gates};
 use test_rows::{Wrong, each_row};
 
 /// The place of the next gate on a wire of the gate in a slot.

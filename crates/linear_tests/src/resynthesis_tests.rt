@@ -8,8 +8,8 @@ use phase_poly::{Layer, Poly, ResynthPass, layers, poly, resynth};
 use rewrite_pass::{Trace, Traced};
 use spare_layers::with_spares;
 use std::alloc::{AllocError, Global};
-use test_circuits::{circuit_of_text, gates_of, gates_of_text};
-use test_rows::{Wrong, each_row, field, is_line, numbers};
+use test_circuits::{circuit_of_text, gates_of_text, has_gates};
+use test_rows::{Wrong, are_lines, each_row, field, field_number, lines_below, numbers};
 
 /// Whether a layer has the gates of a word, and behind a colon the wires of its H.
 fn is_layer(alloc: Global, layer: &Layer, wanted: &str) -> Result<bool, AllocError> {
@@ -95,8 +95,7 @@ fn stays(alloc: Global, gates: &str) -> Result<bool, AllocError> {
         return Ok(false);
     };
     let passed = with_spares(alloc, 0, &body)?;
-    let found = gates_of(alloc, &passed.body)?;
-    Ok(found.as_slice() == gates_of_text(alloc, gates)?.as_slice() && passed.turn == 0)
+    Ok(has_gates(alloc, &passed.body, gates)? && passed.turn == 0)
 }
 
 /// The seven sums of three wires, with phases at five places.
@@ -108,15 +107,14 @@ fn stays_without_spares(rt: HostRuntime) -> Result<(), Wrong> {
 
 /// Whether the first line of a case, gates on three wires and a turn, is told by the lines that follow.
 fn is_told(alloc: Global, case: &str) -> Result<bool, AllocError> {
-    let (row, lines) = case.split_once('\n').unwrap_or((case, ""));
+    let (row, lines) = lines_below(case);
     let Some(body) = circuit_of_text(alloc, 3, field(row, 0))? else {
         return Ok(false);
     };
     let mut trace = Trace::start(alloc);
     let passed = ResynthPass.run_traced(alloc, body, &mut trace)?;
     let told = trace.lines()?;
-    let is_told = is_line(told.as_slice(), lines) || (told.is_empty() && lines.is_empty());
-    Ok(is_told && field(row, 1).parse::<u8>().ok() == Some(passed.turn))
+    Ok(are_lines(told.as_slice(), lines) && field_number(row, 1) == u32::from(passed.turn))
 }
 
 /// A trace gets one step, with the gates of the result, if a layer is replaced, and none if no layer is. In the first case an X

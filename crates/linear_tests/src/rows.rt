@@ -4,7 +4,7 @@ ghost use Rattle.std.specs.Prelude.{◌<◌, ◌≤◌, ◌^◌, All, IfOk};
 
 use gf2_linear::{MOST_WIRES, Matrix, Row};
 use std::alloc::{AllocError, Global};
-use test_rows::numbers;
+use test_rows::{number_of, numbers};
 
 /// The row of the wires of a word, apart by commas, as `0,255`; the row without wires for an empty word.
 pub fn row(alloc: Global, word: &str) -> Result<Row, AllocError> {
@@ -55,10 +55,7 @@ pub fn pairs(alloc: Global, word: &str) -> Result<Vec<(u32, u32)>, AllocError> {
     }
     'pairs: for pair in word.split(',') {
         let (from, to) = pair.split_once('.').unwrap_or(("", ""));
-        pairs.push((
-            from.parse::<u32>().unwrap_or(7777),
-            to.parse::<u32>().unwrap_or(7777),
-        ))?;
+        pairs.push((number_of(from), number_of(to)))?;
     }
     Ok(pairs)
 }

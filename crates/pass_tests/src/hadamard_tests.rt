@@ -2,20 +2,19 @@
 //! `tools/tests/test_passes.py`.
 
 use crate::edits::make;
-use crate::passed::{has_gates, makes, tells};
-use crate::rows::{lines_below, number};
+use crate::passed::{makes, tells};
 use hadamard_reduce::{HadamardPass, HadamardRules};
 use rewrite_pass::Rule;
 use std::alloc::{AllocError, Global};
-use test_circuits::{circuit_of_text, is_turned};
-use test_rows::{Wrong, each_row, field};
+use test_circuits::{circuit_of_text, has_gates, is_turned};
+use test_rows::{Wrong, each_row, field, field_number, lines_below};
 
 /// Whether the window of a row becomes its gates, with its turn, by which the matrix is turned.
 fn is_changed(alloc: Global, row: &str) -> Result<bool, AllocError> {
     let Some(mut body) = circuit_of_text(alloc, 3, field(row, 0))? else {
         return Ok(false);
     };
-    let place = number(row, 1) as usize;
+    let place = field_number(row, 1) as usize;
     if place >= body.len() {
         return Ok(false);
     }
@@ -26,7 +25,7 @@ fn is_changed(alloc: Global, row: &str) -> Result<bool, AllocError> {
     let is_made = make(3, &mut body, &change);
     Ok(
         is_made
-            && u32::from(change.turn) == number(row, 3)
+            && u32::from(change.turn) == field_number(row, 3)
             && has_gates(alloc, &body, field(row, 2))?
             && is_turned(alloc, &before, &body, change.turn)?,
     )
@@ -59,7 +58,7 @@ fn is_none(alloc: Global, row: &str) -> Result<bool, AllocError> {
     let Some(body) = circuit_of_text(alloc, 3, field(row, 0))? else {
         return Ok(false);
     };
-    let place = number(row, 1) as usize;
+    let place = field_number(row, 1) as usize;
     Ok(place < body.len() && HadamardRules.at(&body, place).is_none())
 }
 
@@ -92,7 +91,7 @@ fn nothing_where_no_window_begins(rt: HostRuntime) -> Result<(), Wrong> {
 /// Whether the sweep of a row's gates gives its gates and its turn, and tells the lines below it.
 fn is_swept(alloc: Global, row: &str) -> Result<bool, AllocError> {
     let (row, lines) = lines_below(row);
-    let (source, turn) = (field(row, 0), number(row, 2));
+    let (source, turn) = (field(row, 0), field_number(row, 2));
     Ok(
         makes(alloc, &HadamardPass, 3, source, field(row, 1), turn)?
             && tells(alloc, &HadamardPass, source, turn, lines)?,

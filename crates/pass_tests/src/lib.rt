@@ -21,5 +21,3 @@ mod not_tests;
 mod passed;
 #[cfg(test)]
 mod rewrite_tests;
-#[cfg(test)]
-mod rows;

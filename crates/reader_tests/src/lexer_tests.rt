@@ -1,9 +1,9 @@
 //! Texts and their tokens, worked by hand. Texts without tokens are in `cases/tokens.txt`, and values of numbers in `cases/values.txt`.
 
-use crate::rows::{number_of, sides};
+use crate::rows::sides;
 use qasm_lexer::{Kind, Token, lex};
 use std::alloc::{AllocError, Global};
-use test_rows::{Wrong, each_row, word};
+use test_rows::{Wrong, each_row, number_of, word};
 
 /// The name of a kind.
 fn name(kind: Kind) -> &'static str {

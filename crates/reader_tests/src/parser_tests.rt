@@ -7,7 +7,7 @@ use angle_fraction::Frac;
 use qasm_lexer::lex;
 use qasm_parser::{Binary, Expr, Program, Stmt, parse};
 use std::alloc::{AllocError, Global};
-use test_rows::{Wrong, each_row, small};
+use test_rows::{Wrong, each_row, lines_below, small};
 
 /// The tree of a text; none where it has no tokens or no tree.
 pub fn tree_of(alloc: Global, text: &[u8]) -> Option<Program> {
@@ -174,7 +174,7 @@ OPENQASM 2.0;opaque o(a,b) q;gate g() a{barrier a;}gate k(t) a{U(t,0,0) a;}h() q
 
 /// Whether the text below the first line of a row spells as many statements as this line says.
 fn has_statements(alloc: Global, row: &str) -> Result<bool, AllocError> {
-    let (count, text) = row.split_once('\n').unwrap_or((row, ""));
+    let (count, text) = lines_below(row);
     match tree_of(alloc, text.as_bytes()) {
         Some(program) => Ok(program.list.len() == small(count, 0) as usize),
         None => Ok(false),

@@ -3,7 +3,7 @@
 
 use coupling_map::{Device, DeviceError, read_device};
 use std::alloc::Global;
-use test_rows::{Wrong, each_row, field, numbers, small, word};
+use test_rows::{Wrong, each_row, field, lines_below, numbers, small, word};
 
 /// Whether a device has the size, the format and the diameter of a row, and qubit 0 these neighbours.
 fn has_shape(device: &Device, row: &str, near: &[u32]) -> bool {
@@ -46,7 +46,7 @@ fn has_pairs(device: &Device, pairs: &str) -> bool {
 }
 
 fn is_device(alloc: Global, row: &str) -> Result<bool, DeviceError> {
-    let (told, text) = row.split_once('\n').unwrap_or((row, ""));
+    let (told, text) = lines_below(row);
     let near = numbers(alloc, field(told, 1))?;
     let device = read_device(alloc, text.as_bytes())?;
     let pairs = field(told, 2);

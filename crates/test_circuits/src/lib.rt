@@ -14,6 +14,6 @@ mod gates;
 mod values;
 
 pub use comparison::{are_turned, is_turned, operations};
-pub use gates::{circuit_of, circuit_of_text, gates_of, gates_of_text, is_fine};
+pub use gates::{circuit_of, circuit_of_text, gates_of, gates_of_text, has_gates, is_fine};
 pub use unitary_reference::entries::Value;
 pub use values::{doubled, entry, halvings, sum, turned};
