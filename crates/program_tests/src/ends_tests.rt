@@ -2,7 +2,7 @@
 
 use crate::runs_tests::{Case, Outcome, run_case};
 use std::alloc::{AllocError, Global};
-use test_rows::{Wrong, each_row, field};
+use test_rows::{Wrong, each_row, field, number_of};
 
 const TWO: &[u8] = b"OPENQASM 2.0;\ninclude \"qelib1.inc\";\nqreg q[1]; t q[0]; t q[0];";
 
@@ -60,7 +60,7 @@ fn part(row: &str, at: usize) -> &str {
 }
 
 fn number(row: &str, at: usize) -> usize {
-    part(row, at).parse::<usize>().unwrap_or(7777)
+    number_of(part(row, at)) as usize
 }
 
 fn command_of(row: &str) -> &str {
@@ -71,7 +71,7 @@ fn command_of(row: &str) -> &str {
 fn fails_of(row: &str) -> [u64; 4] {
     let mut fails = [0, 0, 0, 0];
     'calls: for (call, number) in fails.iter_mut().zip(part(row, 1).split(' ')) {
-        *call = number.parse::<u64>().unwrap_or(0);
+        *call = u64::from(number_of(number));
     }
     fails
 }
