@@ -89,6 +89,9 @@ pub fn rows_of(alloc: Global, masks: &[u32], wires: u32) -> Result<Vec<Row>, All
 /// Whether places are the numbers of a word.
 pub fn are_places(alloc: Global, found: &[usize], word: &str) -> Result<bool, AllocError> {
     let wanted = numbers(alloc, word)?;
-    let is_same = found.iter().zip(wanted.iter()).all(|(f, w)| *f == *w as usize);
+    let is_same = found
+        .iter()
+        .zip(wanted.iter())
+        .all(|(f, w)| *f == *w as usize);
     Ok(found.len() == wanted.len() && is_same)
 }
