@@ -1,13 +1,13 @@
 //! Values by hand. Counts of T gates and CNOTs are in `cases/read.txt`.
 
-ghost use Rattle.std.specs.Prelude.{◌≤◌};
+ghost use Rattle.std.specs.Prelude.{◌≤◌, length};
 ghost use Rattle.unitary_model.specs.Operations.{WiresBelow};
 ghost use Rattle.unitary_model.specs.OddPaths.{walked_all, first_walk};
 
 use std::alloc::{AllocError, Global};
-use test_circuits::entry;
 use test_rows::{Wrong, each_row, small, word};
 use unitary_model::Op;
+use unitary_reference::entries::{Value, amplitude_of};
 use unitary_reference::paths::odd_paths_of;
 
 const H: Op = Op::U {
@@ -65,6 +65,13 @@ fn ops_of(alloc: Global, letters: &str) -> Result<Vec<Op>, AllocError> {
         ops.push(op_of(*letter))?;
     }
     Ok(ops)
+}
+
+/// An entry of the matrix of at most 20 operations, times 2 for each `U` of theirs.
+fn entry(ops: &[Op], from: &mut [bool], to: &[bool]) -> Value
+    requires operations_limit { length ops.now ≤ 20 }
+{
+    amplitude_of(ops, from, to)
 }
 
 /// Whether the entry of some operations from two bits to two bits is that of a row.

@@ -10,8 +10,6 @@ mod cancel_tests;
 #[cfg(test)]
 mod commute_tests;
 #[cfg(test)]
-mod edits;
-#[cfg(test)]
 mod hadamard_tests;
 #[cfg(test)]
 mod merge_tests;
