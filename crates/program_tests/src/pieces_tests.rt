@@ -17,18 +17,21 @@ barrier q;
 measure q -> c;
 "#;
 
-/// Whether one byte a call, in and out, changes neither the status nor the texts.
-fn moves_bytes<'a>(alloc: Global, words: &'a str, text: &'a str) -> Result<bool, AllocError> {
-    let case = Case {
+/// A run of the words on a text, with so many bytes a call.
+fn case_of<'a>(words: &'a str, text: &'a str, most: [usize; 3]) -> Case<'a> {
+    Case {
         words,
         text: text.as_bytes(),
         shelf: "d\nqubits = 2\nedges = [[1, 0]]\n",
         fails: [0, 0, 0, 0],
-        most: [64, 16, 9999],
-    };
-    let want = run_case(alloc, case)?;
-    let most = [1, 1, 1];
-    let got = run_case(alloc, Case { most, ..case })?;
+        most,
+    }
+}
+
+/// Whether one byte a call, in and out, changes neither the status nor the texts.
+fn moves_bytes(alloc: Global, words: &str, text: &str) -> Result<bool, AllocError> {
+    let want = run_case(alloc, case_of(words, text, [64, 16, 9999]))?;
+    let got = run_case(alloc, case_of(words, text, [1, 1, 1]))?;
     Ok(
         got.status == want.status
             && got.out.as_slice() == want.out.as_slice()
