@@ -5,6 +5,7 @@ use qroute_top::run;
 use std::alloc::{AllocError, Global};
 
 /// What is handed to `run`.
+#[derive(Clone, Copy)]
 pub struct Case<'a> {
     /// The words, a space between two; none for an empty text.
     pub words: &'a str,
