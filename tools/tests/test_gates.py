@@ -6,6 +6,7 @@ The matrices are those of the textbooks; the power of w, the eighth root of unit
 import concurrent.futures
 import dataclasses
 import itertools
+import json
 import os
 import subprocess
 import sys
@@ -15,6 +16,7 @@ from tool import TOP, ToolTest
 sys.path.insert(0, os.path.join(TOP, "tools", "lib"))
 import built
 import exact
+import qasm
 from cases import HEADING
 
 ONE = (1, 0, 0, 0)
@@ -156,3 +158,20 @@ class Gates(ToolTest):
 
     def test_u2(self):
         self.are_rotations("u2", [2])
+
+    def is_expanded(self, angles):
+        """Whether the gates that `opt` writes for a `U` have its entries, with the turn that is told."""
+        told = ",".join(f"{it}*pi/4" for it in angles)
+        text = HEADING + f"qreg q[1]; U({told}) q[0];".encode()
+        found = subprocess.run([self.program, "opt"], input=text, capture_output=True, timeout=60)
+        self.assertEqual(found.returncode, 0, told)
+        source, written = (qasm.written_out("", it.decode())[1] for it in (text, found.stdout))
+        for index in range(2):
+            left, right = (exact.basis(1, index).run(it) for it in (source, written))
+            self.assertIsNone(exact.first_difference(left, right, json.loads(found.stderr)["phase"]), told)
+
+    def test_expansion(self):
+        """The gates of `U` at all multiples of pi/4."""
+        with concurrent.futures.ThreadPoolExecutor(os.cpu_count()) as pool:
+            for _ in pool.map(self.is_expanded, itertools.product(range(8), repeat=3)):
+                pass

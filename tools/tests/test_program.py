@@ -3,6 +3,7 @@
 import concurrent.futures
 import json
 import os
+import re
 import subprocess
 import sys
 
@@ -34,6 +35,22 @@ g(pi/4) q[0],q[1];
 barrier q;
 measure q -> c;
 """
+# a start, gates and wires, and the gates, which a program of its own computed
+DRAWN = """\
+1 12 4|cx 1,2; cx 2,1; tdg 2; t 2; s 2; x 0; tdg 0; tdg 3; x 1; s 1; cx 2,3; h 0;
+0 12 2|cx 0,1; x 1; s 0; cx 0,1; cx 0,1; cx 0,1; t 0; s 1; cx 1,0; tdg 1; s 1; cx 1,0;
+7 10 1|h 0; t 0; t 0; h 0; s 0; s 0; h 0; h 0; h 0; x 0;
+4294967295 12 64|cx 44,42; s 62; cx 56,37; cx 0,43; tdg 31; cx 32,43; cx 24,5; tdg 16; t 3; s 35; tdg 40; cx 4,7;
+3 12 256|s 251; s 202; x 163; cx 85,69; t 83; tdg 104; cx 198,23; s 59; cx 88,214; cx 251,197; cx 155,3; s 205;
+2 0 3|
+"""
+# a start, and the first numbers that are drawn from it, likewise
+FIRST = {
+    1: [908834774, 1093944153, 1392341196, 822192870],
+    0: [167951807, 218396424, 1299921937, 861605236],
+    7: [1059165278, 2052263231, 1946856753, 585718673],
+    4294967295: [69501759, 1503429036, 1091279824, 2129514251],
+}
 
 
 def numbers(state):
@@ -49,8 +66,8 @@ def drawn_for_bench(start, gates, qubits):
     lines = [f"qreg q[{qubits}];"]
     for _ in range(gates):
         kind, wire = next(drawn) % 8, next(drawn) % qubits
-        if kind < 5:
-            lines.append(f"{('h', 't', 'tdg', 's', 'x')[kind]} q[{wire}];")
+        if kind < 5 or qubits == 1:
+            lines.append(f"{('h', 't', 'tdg', 's', 'x', 'h', 'h', 'h')[kind]} q[{wire}];")
         else:
             lines.append(f"cx q[{wire}],q[{(wire + 1 + next(drawn) % (qubits - 1)) % qubits}];")
     return "\n".join(lines)
@@ -144,6 +161,38 @@ class Program(ToolTest):
         """`bench` writes and tells what `route` does of the drawn program's text."""
         with concurrent.futures.ThreadPoolExecutor(os.cpu_count()) as pool:
             self.assertGreater(sum(pool.map(self.routes, range(50))), 0)
+
+    def is_drawn(self, start, gates, qubits, device):
+        """Whether `bench` and `route` do the same on a device with edges between all qubits, or between neighbours."""
+        far = qubits if device == "all" else 2
+        edges = [[a, b] for a in range(qubits) for b in range(a + 1, min(a + far, qubits))]
+        self.file(f"{device}_{qubits}", f"qubits = {qubits}\nedges = {edges}\n")
+        words = f"--device {device}_{qubits}"
+        bench = self.ran(f"bench --start {start} --gates {gates} {words}")
+        self.assertEqual(bench[0], 0)
+        self.assertEqual(bench, self.ran(f"route {words}", drawn_for_bench(start, gates, qubits)), start)
+
+    def test_what_is_drawn(self):
+        """What is drawn here, whose text `bench` routes: worked rows, and the first numbers of each start."""
+        for start, wanted in FIRST.items():
+            found = numbers(start)
+            self.assertEqual([next(found) for _ in wanted], wanted, start)
+            for qubits in (256, 255, 253, 251):
+                self.is_drawn(start, 2, qubits, "line")
+        for row in DRAWN.splitlines():
+            head, listed = row.split("|")
+            start, gates, qubits = map(int, head.split())
+            text = drawn_for_bench(start, gates, qubits)
+            self.assertEqual(text.splitlines()[1:], [re.sub(r"(\d+)", r"q[\1]", it) for it in re.findall(r"[^;]+;", listed.replace("; ", ";"))], row)
+            # a program without gates isn't drawn by a run
+            if gates:
+                self.is_drawn(start, gates, qubits, "line")
+
+    def test_the_longest_program(self):
+        """The last gate was computed by a program of its own."""
+        lines = drawn_for_bench(12, 20000, 64).splitlines()
+        self.assertEqual((len(lines), lines[-1]), (20001, "x q[5];"))
+        self.is_drawn(12, 20000, 64, "all")
 
     def begins(self, device, program, more):
         """From where a run began the same one begins again, but for the spare wires; own numbers are as `--trivial`."""

@@ -1,13 +1,8 @@
-//! What these tests share: gates by their texts, and slots.
+//! What these tests share: gates that are put in, and slots.
 
 use circuit_list::{Circuit, Gate, Slot};
 use std::alloc::{AllocError, Global};
-use test_circuits::{gates_of, gates_of_text, is_fine};
-
-/// Whether a circuit has the gates of a text.
-pub fn has_gates(alloc: Global, circuit: &Circuit, text: &str) -> Result<bool, AllocError> {
-    Ok(gates_of(alloc, circuit)? == gates_of_text(alloc, text)?)
-}
+use test_circuits::is_fine;
 
 /// The slot of the gate at a place, if it is there.
 pub fn slot_at(circuit: &Circuit, place: u64) -> Option<Slot> {

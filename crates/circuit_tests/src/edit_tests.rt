@@ -1,9 +1,8 @@
 //! Gates of a circuit, their counts, and edits of a copy.
 
-use crate::circuits::has_gates;
 use circuit_list::{Circuit, Gate};
 use std::alloc::{AllocError, Global};
-use test_circuits::circuit_of_text;
+use test_circuits::{circuit_of_text, has_gates};
 use test_rows::{Wrong, each_row};
 
 /// Whether a circuit has these counts.

@@ -1,8 +1,9 @@
 //! Gates far apart, with gates or with empty slots between them.
 
-use crate::circuits::{first_slots, has_gates, put, slot_at};
+use crate::circuits::{first_slots, put, slot_at};
 use circuit_list::{Circuit, Gate, Slot};
 use std::alloc::{AllocError, Global};
+use test_circuits::has_gates;
 use test_rows::{Wrong, each_row, number};
 
 /// H on wire 1, 300 times X on wire 0, H on wire 1 and X on wire 0; linked after the first gate, or not.

@@ -63,42 +63,21 @@ struct Plain {
 }
 
 impl Plain {
-    /// The slot of the next gate on a wire, by a look at each.
-    fn next_on(&self, place: usize, wire: u32) -> Option<Slot> {
-        let mut found = None;
-        'gates: for (gate, slot) in self.gates.iter().zip(self.slots.iter()).skip(place).skip(1) {
+    /// The slots of the last gate on a wire before a place, and of the next one behind it, by a look at each.
+    fn near(&self, place: usize, wire: u32) -> (Option<Slot>, Option<Slot>) {
+        let (mut last, mut next) = (None, None);
+        'gates: for (at, (gate, slot)) in self.gates.iter().zip(self.slots.iter()).enumerate() {
             let (first, second) = gate.wires();
-            if found.is_none() && (first == wire || second == Some(wire)) {
-                found = Some(*slot);
+            if first != wire && second != Some(wire) {
+                continue;
+            }
+            if at < place {
+                last = Some(*slot);
+            } else if at > place && next.is_none() {
+                next = Some(*slot);
             }
         }
-        found
-    }
-
-    /// The slot of the last gate on a wire before a place.
-    fn prev_on(&self, place: usize, wire: u32) -> Option<Slot> {
-        let mut found = None;
-        'gates: for (gate, slot) in self.gates.iter().zip(self.slots.iter()).take(place) {
-            let (first, second) = gate.wires();
-            if first == wire || second == Some(wire) {
-                found = Some(*slot);
-            }
-        }
-        found
-    }
-
-    /// The slot after that at a place.
-    fn slot_after(&self, place: usize) -> Option<Slot> {
-        self.slots.get(place.saturating_add(1)).copied()
-    }
-
-    /// The slot before that at a place.
-    fn slot_before(&self, place: usize) -> Option<Slot> {
-        if place == 0 {
-            None
-        } else {
-            self.slots.get(place - 1).copied()
-        }
+        (last, next)
     }
 
     /// The first slot that isn't before one, by a look at each.
@@ -168,10 +147,12 @@ fn is_next(circuit: &Circuit, plain: &Plain, place: usize) -> bool {
     let slot = circuit.slot(place);
     let (first, second) = circuit.gate_at(slot).wires();
     let second = second.unwrap_or(first);
-    circuit.next_on(slot, first) == plain.next_on(place, first)
-        && circuit.next_on(slot, second) == plain.next_on(place, second)
-        && circuit.prev_on(slot, first) == plain.prev_on(place, first)
-        && circuit.prev_on(slot, second) == plain.prev_on(place, second)
+    let (last, next) = plain.near(place, first);
+    let (other_last, other_next) = plain.near(place, second);
+    circuit.prev_on(slot, first) == last
+        && circuit.next_on(slot, first) == next
+        && circuit.prev_on(slot, second) == other_last
+        && circuit.next_on(slot, second) == other_next
 }
 
 /// Whether all other answers at one place are those of the plain list, and the first slot from some other slot on, which may have
@@ -186,8 +167,8 @@ fn is_same(circuit: &Circuit, plain: &Plain, place: usize, other: Slot) -> bool 
         && plain.gates.get(place).copied() == Some(circuit.gate(place))
         && circuit.gate_at(slot) == circuit.gate(place)
         && circuit.first() == plain.slots.first().copied()
-        && circuit.after(slot) == plain.slot_after(place)
-        && circuit.before(slot) == plain.slot_before(place)
+        && circuit.after(slot) == plain.slots.get(place.saturating_add(1)).copied()
+        && circuit.before(slot) == plain.slots.get(place.wrapping_sub(1)).copied()
         && circuit.slot_from(slot) == Some(slot)
         && circuit.slot_from(other) == plain.slot_from(other)
 }

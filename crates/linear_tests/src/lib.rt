@@ -1,5 +1,4 @@
-//! Tests of `gf2_linear`, `cnot_synth`, `matroid_partition` and `phase_poly`: worked rows and lists of gates, and drawn rows
-//! against plain programs.
+//! Tests of `gf2_linear`, `cnot_synth`, `matroid_partition`, `phase_poly` and `spare_layers`: worked rows and lists of gates.
 //!
 //! Each test function is proved too, so they are in a crate of their own: these crates are proved once. A proof is long for each
 //! assert in a loop, and so a test hands its rows, and the function that judges one of them by a bool, to `each_row`.

@@ -1,13 +1,15 @@
-//! Layers, phase polynomials and resynthesis: worked lists. What is made of drawn ones is in `tools/tests/test_passes.py`.
+//! Layers, phase polynomials and resynthesis: worked lists. What is made of drawn ones is in `tools/tests/test_passes.py`, and what
+//! `opt` writes of worked ones in `cases/opt.txt`.
 
 use crate::rows::row;
-use circuit_list::{Gate, Passed};
+use circuit_list::Gate;
 use gf2_linear::Row;
 use phase_poly::{Layer, Poly, ResynthPass, layers, poly, resynth};
-use rewrite_pass::{Pass, Trace, Traced};
+use rewrite_pass::{Trace, Traced};
+use spare_layers::with_spares;
 use std::alloc::{AllocError, Global};
-use test_circuits::{circuit_of, circuit_of_text, gates_of, gates_of_text};
-use test_rows::{Wrong, each_row, field, is_line, numbers, small};
+use test_circuits::{circuit_of_text, gates_of_text, has_gates};
+use test_rows::{Wrong, are_lines, each_row, field, field_number, lines_below, numbers};
 
 /// Whether a layer has the gates of a word, and behind a colon the wires of its H.
 fn is_layer(alloc: Global, layer: &Layer, wanted: &str) -> Result<bool, AllocError> {
@@ -87,66 +89,32 @@ fn flipped_phase_and_cnot_twice(rt: HostRuntime) -> Result<(), Wrong> {
     each_row(rt.alloc(), gates, "\n", is_resynthesised)
 }
 
-const FOUR: [Gate; 4] = [
-    Gate::Cx { c: 63, t: 64 },
-    Gate::Cx { c: 64, t: 255 },
-    Gate::Cx { c: 63, t: 64 },
-    Gate::Cx { c: 64, t: 255 },
-];
-
-/// Whether four CNOTs on so many wires become one.
-fn is_one(alloc: Global, wires: &str) -> Result<bool, AllocError> {
-    let Some(body) = circuit_of(alloc, small(wires, 0), FOUR.as_slice())? else {
+/// Whether gates on three wires stay as they are if they have no spare wire.
+fn stays(alloc: Global, gates: &str) -> Result<bool, AllocError> {
+    let Some(body) = circuit_of_text(alloc, 3, gates)? else {
         return Ok(false);
     };
-    let passed = ResynthPass.run(alloc, body)?;
-    let gates = gates_of(alloc, &passed.body)?;
-    Ok(gates.as_slice() == [Gate::Cx { c: 63, t: 255 }].as_slice() && passed.turn == 0)
+    let passed = with_spares(alloc, 0, &body)?;
+    Ok(has_gates(alloc, &passed.body, gates)? && passed.turn == 0)
 }
 
-/// Four CNOTs that are one, far apart on many wires.
+/// The seven sums of three wires, with phases at five places.
 #[test]
-fn four_to_one(rt: HostRuntime) -> Result<(), Wrong> {
-    each_row(rt.alloc(), "256", "\n", is_one)
-}
-
-/// Whether a result has the gates of a text.
-fn has_gates(alloc: Global, passed: &Passed, gates: &str) -> Result<bool, AllocError> {
-    let found = gates_of(alloc, &passed.body)?;
-    Ok(found.as_slice() == gates_of_text(alloc, gates)?.as_slice())
-}
-
-/// Whether the gates of a row, on its wires, become the row's by the pass, with turn 0.
-fn is_passed(alloc: Global, row: &str) -> Result<bool, AllocError> {
-    let Some(body) = circuit_of_text(alloc, small(field(row, 0), 0), field(row, 1))? else {
-        return Ok(false);
-    };
-    let passed = ResynthPass.run(alloc, body)?;
-    Ok(has_gates(alloc, &passed, field(row, 2))? && passed.turn == 0)
-}
-
-/// A circuit of which no layer is replaced comes back in its own order. In the second row the first layer has one CNOT in the place
-/// of four, and the second, which would have two again, stays as it is.
-const PASSES: &str = "\
-2|h.1 h.0|h.1 h.0
-3|c01 c12 c01 c12 h.1 h.0 c01 1.1 c01|c02 h.0 h.1 c01 1.1 c01";
-
-#[test]
-fn keeps_a_layer_at_equal_cnots(rt: HostRuntime) -> Result<(), Wrong> {
-    each_row(rt.alloc(), PASSES, "\n", is_passed)
+fn stays_without_spares(rt: HostRuntime) -> Result<(), Wrong> {
+    let gates = "1.0 1.1 1.2 c01 7.1 c12 1.2 c01 c12 7.2 c12 c02 7.2 x.1 c02";
+    each_row(rt.alloc(), gates, "\n", stays)
 }
 
 /// Whether the first line of a case, gates on three wires and a turn, is told by the lines that follow.
 fn is_told(alloc: Global, case: &str) -> Result<bool, AllocError> {
-    let (row, lines) = case.split_once('\n').unwrap_or((case, ""));
+    let (row, lines) = lines_below(case);
     let Some(body) = circuit_of_text(alloc, 3, field(row, 0))? else {
         return Ok(false);
     };
     let mut trace = Trace::start(alloc);
     let passed = ResynthPass.run_traced(alloc, body, &mut trace)?;
     let told = trace.lines()?;
-    let is_told = is_line(told.as_slice(), lines) || (told.is_empty() && lines.is_empty());
-    Ok(is_told && field(row, 1).parse::<u8>().ok() == Some(passed.turn))
+    Ok(are_lines(told.as_slice(), lines) && field_number(row, 1) == u32::from(passed.turn))
 }
 
 /// A trace gets one step, with the gates of the result, if a layer is replaced, and none if no layer is. In the first case an X

@@ -1,10 +1,10 @@
-//! Rows by their wires, and rows of three wires by numbers.
+//! Rows by their wires, rows by numbers, and lists of places.
 
-ghost use Rattle.std.specs.Prelude.{◌<◌, ◌^◌, All, IfOk};
+ghost use Rattle.std.specs.Prelude.{◌<◌, ◌≤◌, ◌^◌, All, IfOk};
 
 use gf2_linear::{MOST_WIRES, Matrix, Row};
 use std::alloc::{AllocError, Global};
-use test_rows::numbers;
+use test_rows::{number_of, numbers};
 
 /// The row of the wires of a word, apart by commas, as `0,255`; the row without wires for an empty word.
 pub fn row(alloc: Global, word: &str) -> Result<Row, AllocError> {
@@ -55,20 +55,18 @@ pub fn pairs(alloc: Global, word: &str) -> Result<Vec<(u32, u32)>, AllocError> {
     }
     'pairs: for pair in word.split(',') {
         let (from, to) = pair.split_once('.').unwrap_or(("", ""));
-        pairs.push((
-            from.parse::<u32>().unwrap_or(7777),
-            to.parse::<u32>().unwrap_or(7777),
-        ))?;
+        pairs.push((number_of(from), number_of(to)))?;
     }
     Ok(pairs)
 }
 
-/// The row of three wires whose bits a number spells.
-fn row_of(mask: u32) -> Row
-    ensures small { result < 2 ^ 3 }
+/// The row of the wires, among so many, whose bits a number spells.
+pub fn row_of(mask: u32, wires: u32) -> Row
+    requires few { wires ≤ 32 }
+    ensures small { result < 2 ^ wires }
 {
     let mut row = Row::empty();
-    'wires: for wire in 0u32..3 {
+    'bits: for wire in 0..wires {
         if mask >> wire & 1 == 1 {
             row.flip(wire);
         }
@@ -76,13 +74,24 @@ fn row_of(mask: u32) -> Row
     row
 }
 
-/// The rows of three wires whose bits some numbers spell.
-pub fn rows_of(alloc: Global, masks: &[u32]) -> Result<Vec<Row>, AllocError>
-    ensures ok { IfOk result (λ v. All (λ r. r < 2 ^ 3) v.items) }
+/// The rows of so many wires whose bits some numbers spell.
+pub fn rows_of(alloc: Global, masks: &[u32], wires: u32) -> Result<Vec<Row>, AllocError>
+    requires few { wires ≤ 32 }
+    ensures ok { IfOk result (λ v. All (λ r. r < 2 ^ wires) v.items) }
 {
     let mut rows = Vec::new(alloc);
     'masks: for mask in masks {
-        rows.push(row_of(*mask))?;
+        rows.push(row_of(*mask, wires))?;
     }
     Ok(rows)
+}
+
+/// Whether places are the numbers of a word.
+pub fn are_places(alloc: Global, found: &[usize], word: &str) -> Result<bool, AllocError> {
+    let wanted = numbers(alloc, word)?;
+    let is_same = found
+        .iter()
+        .zip(wanted.iter())
+        .all(|(f, w)| *f == *w as usize);
+    Ok(found.len() == wanted.len() && is_same)
 }

@@ -1,15 +1,13 @@
-//! Values by hand.
+//! Values by hand. Counts of T gates and CNOTs are in `cases/read.txt`.
 
-ghost use Rattle.std.specs.Prelude.{◌^◌, ◌<◌, ◌≤◌};
-ghost use Rattle.unitary_model.specs.Operations.{t_count, cx_count, WiresBelow};
+ghost use Rattle.std.specs.Prelude.{◌≤◌, length};
+ghost use Rattle.unitary_model.specs.Operations.{WiresBelow};
 ghost use Rattle.unitary_model.specs.OddPaths.{walked_all, first_walk};
 
-use gate_expand::{cx_count_of, t_count_of};
 use std::alloc::{AllocError, Global};
-use std::test::Fail;
-use test_circuits::entry;
-use test_rows::{Wrong, each_row, word};
+use test_rows::{Wrong, each_row, small, word};
 use unitary_model::Op;
+use unitary_reference::entries::{Value, amplitude_of};
 use unitary_reference::paths::odd_paths_of;
 
 const H: Op = Op::U {
@@ -69,6 +67,13 @@ fn ops_of(alloc: Global, letters: &str) -> Result<Vec<Op>, AllocError> {
     Ok(ops)
 }
 
+/// An entry of the matrix of at most 20 operations, times 2 for each `U` of theirs.
+fn entry(ops: &[Op], from: &mut [bool], to: &[bool]) -> Value
+    requires operations_limit { length ops.now ≤ 20 }
+{
+    amplitude_of(ops, from, to)
+}
+
 /// Whether the entry of some operations from two bits to two bits is that of a row.
 fn has_entry(ops: &[Op], row: &str) -> bool {
     let (from, to) = (word(row, 1).as_bytes(), word(row, 2).as_bytes());
@@ -123,25 +128,27 @@ fn entries_by_hand(rt: HostRuntime) -> Result<(), Wrong> {
     each_row(rt.alloc(), ENTRIES, "\n", is_entry)
 }
 
-/// Whether there are so many T gates, CNOTs and odd path parities.
-fn has_counts(alloc: Global, ops: &[Op], t: u64, cx: u64, odd: usize) -> Result<bool, AllocError>
-    requires few_t { t_count ops.now < 2 ^ 64 }
-    requires few_cx { cx_count ops.now < 2 ^ 64 }
+/// Whether there are so many odd path parities.
+fn has_odd(alloc: Global, ops: &[Op], odd: u32) -> Result<bool, AllocError>
     requires below { WiresBelow 2 ops.now }
     requires variables { (walked_all ops.now (first_walk 2)).unused ≤ 64 }
 {
-    Ok(t_count_of(ops) == t && cx_count_of(ops) == cx && odd_paths_of(alloc, 2, ops)? == odd)
+    Ok(odd_paths_of(alloc, 2, ops)? == odd as usize)
 }
 
-// T T on one path is no T; T H H T is on two paths; of three T on the lower wire two are on its own
-// path, and the one between two CNOTs is on the sum of both.
+/// Whether five lists have as many as a row says. T T on one path is no T; T H H T is on two paths; of three T on the lower wire two are
+/// on its own path, and the one between two CNOTs is on the sum of both.
+fn have_odd(alloc: Global, row: &str) -> Result<bool, AllocError> {
+    Ok(
+        has_odd(alloc, &[T, T], small(row, 0))?
+            && has_odd(alloc, &[T, H, H, T], small(row, 1))?
+            && has_odd(alloc, &[H, T], small(row, 2))?
+            && has_odd(alloc, &[ODD], small(row, 3))?
+            && has_odd(alloc, &[BELOW, CX, BELOW, CX, BELOW], small(row, 4))?,
+    )
+}
+
 #[test]
-fn counts_by_hand(rt: HostRuntime) -> Result<(), Fail> {
-    let alloc = rt.alloc();
-    assert!(rt; has_counts(alloc, &[T, T], 2, 0, 0)?);
-    assert!(rt; has_counts(alloc, &[T, H, H, T], 2, 0, 2)?);
-    assert!(rt; has_counts(alloc, &[H, T], 1, 0, 1)?);
-    assert!(rt; has_counts(alloc, &[ODD], 2, 0, 2)?);
-    assert!(rt; has_counts(alloc, &[BELOW, CX, BELOW, CX, BELOW], 3, 2, 1)?);
-    Ok(())
+fn odd_paths_by_hand(rt: HostRuntime) -> Result<(), Wrong> {
+    each_row(rt.alloc(), "0 2 1 2 1", "\n", have_odd)
 }

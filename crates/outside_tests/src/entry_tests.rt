@@ -1,8 +1,7 @@
-//! Lines of answers, worked by hand.
+//! Lines of answers, worked by hand. Those of `verify` are in `cases/verdicts.txt`.
 
-use route_report::{Counts, Entry, check_line, entry_line, verdict_line};
+use route_report::{Counts, Entry, check_line, entry_line};
 use std::alloc::{AllocError, Global};
-use std::test::Fail;
 use test_rows::{Wrong, each_row, is_line, number, small, word};
 
 /// Whether the second line of a row tells the counts of the first.
@@ -58,12 +57,4 @@ const ENTRIES: &str = "\
 #[test]
 fn writes_the_entry_lines(rt: HostRuntime) -> Result<(), Wrong> {
     each_row(rt.alloc(), ENTRIES, "\n", is_entry)
-}
-
-#[test]
-fn writes_the_verdict_lines(rt: HostRuntime) -> Result<(), Fail> {
-    for (phase, line) in [(0, "yes 0"), (7, "yes 7")] {
-        assert!(rt; is_line(verdict_line(rt.alloc(), phase)?.as_slice(), line));
-    }
-    Ok(())
 }

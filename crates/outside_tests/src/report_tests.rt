@@ -2,7 +2,7 @@
 
 use route_report::{Parts, Report, Wires, report_line};
 use std::alloc::{AllocError, Global};
-use test_rows::{Wrong, each_row, is_line, numbers};
+use test_rows::{Wrong, each_row, is_line, number_of, numbers};
 
 /// What follows a key in a row.
 fn value<'a>(row: &'a str, key: &str) -> Option<&'a str> {
@@ -24,10 +24,7 @@ fn count(row: &str, key: &str) -> u64 {
 
 /// The same, of 32 bits.
 fn small(row: &str, key: &str) -> u32 {
-    value(row, key)
-        .unwrap_or("0")
-        .parse::<u32>()
-        .unwrap_or(7777)
+    number_of(value(row, key).unwrap_or("0"))
 }
 
 /// The phase of a row.

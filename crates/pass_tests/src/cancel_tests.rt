@@ -1,7 +1,6 @@
 //! Worked rows. What is left of drawn lists is in `tools/tests/test_passes.py`.
 
 use crate::passed::{makes, tells};
-use crate::rows::{lines_below, number};
 use circuit_list::Gate;
 use gate_cancel::CancelPass;
 use hadamard_reduce::HadamardPass;
@@ -10,17 +9,17 @@ use rewrite_pass::{Pass, Round, Then, WhileSmaller};
 use rotation_merge::MergePass;
 use std::alloc::{AllocError, Global};
 use test_circuits::{circuit_of, gates_of};
-use test_rows::{Wrong, each_row, field, small};
+use test_rows::{Wrong, each_row, field, field_number, lines_below, small};
 
 fn is_shortened(alloc: Global, row: &str) -> Result<bool, AllocError> {
     let (source, gates) = (field(row, 1), field(row, 2));
     makes(
         alloc,
         &CancelPass,
-        number(row, 0),
+        field_number(row, 0),
         source,
         gates,
-        number(row, 3),
+        field_number(row, 3),
     )
 }
 
@@ -47,7 +46,7 @@ fn rows_by_hand(rt: HostRuntime) -> Result<(), Wrong> {
 /// Whether two ways to put the passes together tell the steps of a row.
 fn is_told(alloc: Global, row: &str) -> Result<bool, AllocError> {
     let (row, lines) = lines_below(row);
-    let (source, turn) = (field(row, 0), number(row, 1));
+    let (source, turn) = (field(row, 0), field_number(row, 1));
     let rounds = Then(CancelPass, WhileSmaller(Round(CancelPass, MergePass)));
     let plain = WhileSmaller(Then(CancelPass, MergePass));
     Ok(tells(alloc, &rounds, source, turn, lines)? && tells(alloc, &plain, source, turn, lines)?)

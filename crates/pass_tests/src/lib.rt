@@ -10,8 +10,6 @@ mod cancel_tests;
 #[cfg(test)]
 mod commute_tests;
 #[cfg(test)]
-mod edits;
-#[cfg(test)]
 mod hadamard_tests;
 #[cfg(test)]
 mod merge_tests;
@@ -21,5 +19,3 @@ mod not_tests;
 mod passed;
 #[cfg(test)]
 mod rewrite_tests;
-#[cfg(test)]
-mod rows;

@@ -1,13 +1,12 @@
 //! Rows by hand. What is merged of drawn lists is in `tools/tests/test_passes.py`.
 
 use crate::passed::{makes, tells};
-use crate::rows::{lines_below, number};
 use rotation_merge::MergePass;
 use std::alloc::{AllocError, Global};
-use test_rows::{Wrong, each_row, field};
+use test_rows::{Wrong, each_row, field, field_number, lines_below};
 
 fn is_merged(alloc: Global, row: &str) -> Result<bool, AllocError> {
-    let (gates, turn) = (field(row, 1), number(row, 2));
+    let (gates, turn) = (field(row, 1), field_number(row, 2));
     makes(alloc, &MergePass, 3, field(row, 0), gates, turn)
 }
 

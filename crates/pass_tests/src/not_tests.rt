@@ -1,13 +1,12 @@
 //! Rows by hand. What is made of drawn lists is in `tools/tests/test_passes.py`.
 
 use crate::passed::{makes, tells};
-use crate::rows::{lines_below, number};
 use not_propagate::NotPass;
 use std::alloc::{AllocError, Global};
-use test_rows::{Wrong, each_row, field};
+use test_rows::{Wrong, each_row, field, field_number, lines_below};
 
 fn is_moved(alloc: Global, row: &str) -> Result<bool, AllocError> {
-    let (gates, turn) = (field(row, 1), number(row, 2));
+    let (gates, turn) = (field(row, 1), field_number(row, 2));
     makes(alloc, &NotPass, 3, field(row, 0), gates, turn)
 }
 
@@ -31,7 +30,7 @@ fn rows_by_hand(rt: HostRuntime) -> Result<(), Wrong> {
 
 fn is_told(alloc: Global, row: &str) -> Result<bool, AllocError> {
     let (row, lines) = lines_below(row);
-    tells(alloc, &NotPass, field(row, 0), number(row, 1), lines)
+    tells(alloc, &NotPass, field(row, 0), field_number(row, 1), lines)
 }
 
 /// Gates, the turn, and the steps.

@@ -1,21 +1,15 @@
 //! What passes make and tell of gates.
 
-use crate::rows::are_lines;
 use circuit_list::{Circuit, Passed};
 use rewrite_pass::{Pass, Trace, Traced};
 use std::alloc::{AllocError, Global};
-use test_circuits::{circuit_of_text, gates_of, gates_of_text};
+use test_circuits::{circuit_of_text, gates_of, has_gates};
+use test_rows::are_lines;
 
 /// Whether two circuits have the same gates.
 pub fn are_same(alloc: Global, left: &Circuit, right: &Circuit) -> Result<bool, AllocError> {
     let gates = gates_of(alloc, left)?;
     Ok(gates.as_slice() == gates_of(alloc, right)?.as_slice())
-}
-
-/// Whether a circuit has the gates of a text.
-pub fn has_gates(alloc: Global, body: &Circuit, text: &str) -> Result<bool, AllocError> {
-    let gates = gates_of(alloc, body)?;
-    Ok(gates.as_slice() == gates_of_text(alloc, text)?.as_slice())
 }
 
 /// Whether a result has the gates of a text, and this turn.

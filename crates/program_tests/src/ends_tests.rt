@@ -2,7 +2,7 @@
 
 use crate::runs_tests::{Case, Outcome, run_case};
 use std::alloc::{AllocError, Global};
-use test_rows::{Wrong, each_row};
+use test_rows::{Wrong, each_row, field, number_of};
 
 const TWO: &[u8] = b"OPENQASM 2.0;\ninclude \"qelib1.inc\";\nqreg q[1]; t q[0]; t q[0];";
 
@@ -26,55 +26,33 @@ qreg q[1]; s q[0];
 //!end 0
 ";
 
-const SMALLER: &str = "OPENQASM 2.0;\ninclude \"qelib1.inc\";\nqreg q[1];\ns q[0];\n";
+/// What a command writes and reports if all of it goes out, and what is reported of a fault. Rows stand apart by `===`, each with
+/// its name, what is written, and the report.
+const TOLD: &str = "\
+opt|OPENQASM 2.0;\ninclude \"qelib1.inc\";\nqreg q[1];\ns q[0];\n|\
+{\"barriers\":0,\"cx_after\":0,\"cx_before\":0,\"device\":1,\"final\":[0],\"format\":1,\"initial\":[0],\"phase\":0,\"qubits\":1,\"swaps\":0,\"t_after\":0,\"t_before\":2}\n===\
+route|OPENQASM 2.0;\ninclude \"qelib1.inc\";\nqreg q[1];\ns q[0];\n|\
+{\"barriers\":0,\"cx_after\":0,\"cx_before\":0,\"device\":1,\"final\":[0],\"format\":1,\"initial\":[0],\"phase\":0,\"qubits\":1,\"swaps\":0,\"t_after\":0,\"t_before\":2}\n===\
+bench|OPENQASM 2.0;\ninclude \"qelib1.inc\";\nqreg q[1];\nh q[0];\n|\
+{\"barriers\":0,\"cx_after\":0,\"cx_before\":0,\"device\":1,\"final\":[0],\"format\":1,\"initial\":[0],\"phase\":0,\"qubits\":1,\"swaps\":0,\"t_after\":0,\"t_before\":0}\n===\
+stages|layer 1 gates 2 parities 0 blocks 0 witness 0 rank 0\n|===\
+amplitude|0 0 1 0 0\n|===\
+verify|yes 0\n|===\
+check||{\"barriers\":0,\"bits\":0,\"cx\":0,\"format\":1,\"operations\":2,\"qubits\":1,\"t\":2}\n===\
+Input||{\"fault\":\"Input\",\"status\":5}\n===\
+Output||{\"fault\":\"Output\",\"status\":6}\n===\
+Shelf||{\"fault\":\"Shelf\",\"status\":9}\n===\
+Words||{\"fault\":\"Words\",\"status\":2}\n===\
+none||";
 
-const DRAWN: &str = "OPENQASM 2.0;\ninclude \"qelib1.inc\";\nqreg q[1];\nh q[0];\n";
-
-/// What a command writes to the output, if all of it goes out.
-fn written_by(command: &str) -> &'static str {
-    if command == "opt" || command == "route" {
-        SMALLER
-    } else if command == "bench" {
-        DRAWN
-    } else if command == "stages" {
-        "layer 1 gates 2 parities 0 blocks 0 witness 0 rank 0\n"
-    } else if command == "amplitude" {
-        "0 0 1 0 0\n"
-    } else if command == "verify" {
-        "yes 0\n"
-    } else {
-        ""
+/// The row of a name, or one without texts if there is none.
+fn told_of(name: &str) -> &'static str {
+    'rows: for row in TOLD.split("===") {
+        if field(row, 0) == name {
+            return row;
+        }
     }
-}
-
-/// The report of a command that ends with status 0.
-fn report_of(command: &str) -> &'static str {
-    if command == "opt" || command == "route" {
-        "{\"barriers\":0,\"cx_after\":0,\"cx_before\":0,\"device\":1,\"final\":[0],\"format\":1,\"initial\":[0],\"phase\":0,\"qubits\":1,\"swaps\":0,\"t_after\":0,\"t_before\":2}\n"
-    } else if command == "bench" {
-        "{\"barriers\":0,\"cx_after\":0,\"cx_before\":0,\"device\":1,\"final\":[0],\"format\":1,\"initial\":[0],\"phase\":0,\"qubits\":1,\"swaps\":0,\"t_after\":0,\"t_before\":0}\n"
-    } else if command == "check" {
-        "{\"barriers\":0,\"bits\":0,\"cx\":0,\"format\":1,\"operations\":2,\"qubits\":1,\"t\":2}\n"
-    } else {
-        ""
-    }
-}
-
-/// What is told by the last word of a row: the report, the fault of this name, or nothing.
-fn told_by(command: &str, word: &str) -> &'static str {
-    if word == "report" {
-        report_of(command)
-    } else if word == "Input" {
-        "{\"fault\":\"Input\",\"status\":5}\n"
-    } else if word == "Output" {
-        "{\"fault\":\"Output\",\"status\":6}\n"
-    } else if word == "Shelf" {
-        "{\"fault\":\"Shelf\",\"status\":9}\n"
-    } else if word == "Words" {
-        "{\"fault\":\"Words\",\"status\":2}\n"
-    } else {
-        ""
-    }
+    "||"
 }
 
 fn part(row: &str, at: usize) -> &str {
@@ -82,7 +60,7 @@ fn part(row: &str, at: usize) -> &str {
 }
 
 fn number(row: &str, at: usize) -> usize {
-    part(row, at).parse::<usize>().unwrap_or(7777)
+    number_of(part(row, at)) as usize
 }
 
 fn command_of(row: &str) -> &str {
@@ -93,17 +71,18 @@ fn command_of(row: &str) -> &str {
 fn fails_of(row: &str) -> [u64; 4] {
     let mut fails = [0, 0, 0, 0];
     'calls: for (call, number) in fails.iter_mut().zip(part(row, 1).split(' ')) {
-        *call = number.parse::<u64>().unwrap_or(0);
+        *call = u64::from(number_of(number));
     }
     fails
 }
 
 /// Whether the texts that came are those of a row.
 fn has_texts(row: &str, got: &Outcome) -> bool {
-    let whole = written_by(command_of(row)).as_bytes();
+    let (command, told) = (command_of(row), part(row, 5));
+    let whole = field(told_of(command), 1).as_bytes();
     let came = number(row, 4).min(whole.len());
-    let told = told_by(command_of(row), part(row, 5));
-    got.out.as_slice() == &whole[..came] && got.report.as_slice() == told.as_bytes()
+    let report = field(told_of(if told == "report" { command } else { told }), 2);
+    got.out.as_slice() == &whole[..came] && got.report.as_slice() == report.as_bytes()
 }
 
 /// Whether the input was taken whole where it is read, and not called where it isn't; and what went out whole is flushed, and

@@ -1,4 +1,5 @@
-//! Tests of the whole program, by `run` of `qroute_top` over ends in memory: what only such ends can show.
+//! Tests of the whole program, by `run` of `qroute_top` over ends in memory: what only such ends can show; and of `trace_verdict`, which
+//! no run of the program calls.
 //!
 //! An end in memory fails at the call that it is told, gives and takes as few bytes a call, and knows whether it was flushed.
 //! What the program makes of a text and a device stands in `cases/`, as runs of the built program, and `tools/tests/test_passes.py`
@@ -13,3 +14,5 @@ mod ends_tests;
 mod pieces_tests;
 #[cfg(test)]
 mod runs_tests;
+#[cfg(test)]
+mod verdict_tests;

@@ -4,8 +4,6 @@ use outside_io::{MemShelf, MemSink, MemSource, NamedText};
 use qroute_top::run;
 use std::alloc::{AllocError, Global};
 
-pub const HEAD: &str = "OPENQASM 2.0;\ninclude \"qelib1.inc\";\n";
-
 /// What is handed to `run`.
 #[derive(Clone, Copy)]
 pub struct Case<'a> {

@@ -1,13 +1,9 @@
-//! Texts, their tokens and values, worked by hand. Texts without tokens are in `cases/tokens.txt`.
+//! Texts and their tokens, worked by hand. Texts without tokens are in `cases/tokens.txt`, and values of numbers in `cases/values.txt`.
 
-ghost use Rattle.std.specs.Prelude.{◌<◌, ◌^◌, length};
-ghost use Rattle.qasm_lexer.specs.Tokens.{IsTokenOf};
-
-use crate::rows::{number_of, sides};
-use angle_fraction::{Frac, lowest};
-use qasm_lexer::{Kind, Token, lex, value};
+use crate::rows::sides;
+use qasm_lexer::{Kind, Token, lex};
 use std::alloc::{AllocError, Global};
-use test_rows::{Wrong, each_row, word};
+use test_rows::{Wrong, each_row, number_of, word};
 
 /// The name of a kind.
 fn name(kind: Kind) -> &'static str {
@@ -70,75 +66,4 @@ pi/ //x => word:0-2 sign:2-3
 #[test]
 fn tokens_of_texts(rt: HostRuntime) -> Result<(), Wrong> {
     each_row(rt.alloc(), TOKENS, "\n\n", has_tokens)
-}
-
-/// The value of a token that is a number.
-fn value_of_token(text: &[u8], token: &Token) -> Option<Frac>
-    requires short { length text.now < 2 ^ 32 }
-    requires token { IsTokenOf text.now token.now }
-{
-    match token.kind {
-        Kind::Whole => Some(value(text, token)),
-        Kind::Real => Some(value(text, token)),
-        _ => None,
-    }
-}
-
-/// The value of a text that is one number.
-fn value_of(alloc: Global, text: &[u8]) -> Option<Frac> {
-    if text.len() > 1000 {
-        return None;
-    }
-    let Ok(tokens) = lex(alloc, text) else {
-        return None;
-    };
-    if tokens.len() != 1 {
-        return None;
-    }
-    value_of_token(text, &tokens[0])
-}
-
-/// The number of a text, or one that no row has.
-fn large(text: &str) -> i128 {
-    text.parse::<i128>().unwrap_or(7777)
-}
-
-/// Whether a number has the value of its row.
-fn has_value(alloc: Global, row: &str) -> Result<bool, AllocError> {
-    let (text, wanted) = sides(row);
-    let den = large(word(wanted, 1));
-    if den <= 0 {
-        return Ok(false);
-    }
-    match (
-        value_of(alloc, text.as_bytes()),
-        lowest(large(word(wanted, 0)), den),
-    ) {
-        (Some(found), Ok(value)) => Ok(found == value),
-        _ => Ok(false),
-    }
-}
-
-/// Numbers with their numerators and denominators.
-const VALUES: &str = "\
-0 => 0 1
-42 => 42 1
-4611686018427387904 => 4611686018427387904 1
-4611686018427387904.000 => 4611686018427387904 1
-1. => 1 1
-.5 => 1 2
-0.5 => 1 2
-0.75 => 3 4
-1.5e3 => 1500 1
-1.5e-3 => 3 2000
-1.E5 => 100000 1
-12.50E+0001 => 125 1
-1000000000000000000000.e-21 => 1 1
-0.000000000000000001 => 1 1000000000000000000
-0.000e99999999999999999999 => 0 1
-0.00000000000000000021684043449710088680149056017398834228515625 => 1 4611686018427387904";
-
-#[test]
-fn values_of_numbers(rt: HostRuntime) -> Result<(), Wrong> {
-    each_row(rt.alloc(), VALUES, "\n", has_value)
 }

@@ -1,17 +1,13 @@
-//! Tests of the reader, stage by stage: `angle_fraction`, `qasm_lexer`, `gate_library`, `qasm_parser`, `qasm_check` and
-//! `gate_inline`.
+//! Tests of the reader, stage by stage: `qasm_lexer`, `gate_library`, `qasm_parser` and `qasm_check`.
 //!
 //! Each test function is proved too, so they stand in a crate of their own: these crates are proved once. A proof is long for each
 //! assert in a loop, so a test hands its rows, the lines of a text, and the function that judges one of them to `each_row`.
-//! The gates of the tables are compared with their matrices by runs of the program, in `tools/tests/test_gates.py`.
+//! What angles come to and what is inlined stands in `cases/values.txt`, `long.txt` and `inlined.txt`, as runs of the program; the gates of
+//! the tables are compared with their matrices likewise, in `tools/tests/test_gates.py`.
 #![tactic(auto)]
 
 #[cfg(test)]
-mod angle_tests;
-#[cfg(test)]
 mod check_tests;
-#[cfg(test)]
-mod inline_tests;
 #[cfg(test)]
 mod lexer_tests;
 #[cfg(test)]

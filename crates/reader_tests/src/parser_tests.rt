@@ -5,12 +5,12 @@ ghost use Rattle.std.specs.Prelude.{◌<◌, ◌^◌};
 use crate::rows::sides;
 use angle_fraction::Frac;
 use qasm_lexer::lex;
-use qasm_parser::{Binary, Expr, Name, Program, Stmt, parse};
+use qasm_parser::{Binary, Expr, Program, Stmt, parse};
 use std::alloc::{AllocError, Global};
-use test_rows::{Wrong, each_row, small};
+use test_rows::{Wrong, each_row, lines_below, small};
 
 /// The tree of a text; none where it has no tokens or no tree.
-fn tree_of(alloc: Global, text: &[u8]) -> Option<Program> {
+pub fn tree_of(alloc: Global, text: &[u8]) -> Option<Program> {
     if text.len() > 10_000_000 {
         return None;
     }
@@ -174,7 +174,7 @@ OPENQASM 2.0;opaque o(a,b) q;gate g() a{barrier a;}gate k(t) a{U(t,0,0) a;}h() q
 
 /// Whether the text below the first line of a row spells as many statements as this line says.
 fn has_statements(alloc: Global, row: &str) -> Result<bool, AllocError> {
-    let (count, text) = row.split_once('\n').unwrap_or((row, ""));
+    let (count, text) = lines_below(row);
     match tree_of(alloc, text.as_bytes()) {
         Some(program) => Ok(program.list.len() == small(count, 0) as usize),
         None => Ok(false),
@@ -184,24 +184,4 @@ fn has_statements(alloc: Global, row: &str) -> Result<bool, AllocError> {
 #[test]
 fn programs(rt: HostRuntime) -> Result<(), Wrong> {
     each_row(rt.alloc(), PROGRAMS, "\n\n", has_statements)
-}
-
-const LETTERS: &[u8] = b"abcdefghijklmnopqrstuvwxyz";
-
-/// Whether a name of so many letters is kept.
-fn is_name(alloc: Global, count: &str) -> Result<bool, AllocError> {
-    let count = small(count, 0) as usize;
-    if count > LETTERS.len() {
-        return Ok(false);
-    }
-    let name = Name::copied(alloc, &LETTERS[..count])?;
-    Ok(name.as_bytes() == &LETTERS[..count])
-}
-
-/// Names of 0 to 25 bytes: one of 22 lies in the value, and one of 23 in memory of its own.
-const LENGTHS: &str = "0 1 2 3 4 5 6 7 8 9 10 11 12 13 14 15 16 17 18 19 20 21 22 23 24 25";
-
-#[test]
-fn names(rt: HostRuntime) -> Result<(), Wrong> {
-    each_row(rt.alloc(), LENGTHS, " ", is_name)
 }

@@ -1,14 +1,9 @@
-//! Device texts: devices with their answers. Texts that are refused stand in `cases/devices.txt`.
+//! Device texts: devices with their answers. Texts that are refused stand in `cases/devices.txt`, and bytes that are no text in
+//! `tools/tests/test_pieces.py`.
 
-use coupling_map::{Device, DeviceError, DeviceFault, read_device};
+use coupling_map::{Device, DeviceError, read_device};
 use std::alloc::Global;
-use test_rows::{Wrong, each_row, field, numbers, small, word};
-
-#[test]
-fn refuses_bytes_that_are_no_text(rt: HostRuntime) {
-    let read = read_device(rt.alloc(), b"qubits = 1\nedges = [] # \xff".as_slice());
-    assert!(rt; matches!(read, Err(DeviceError::Refused(DeviceFault::Text))));
-}
+use test_rows::{Wrong, each_row, field, lines_below, numbers, small, word};
 
 /// Whether a device has the size, the format and the diameter of a row, and qubit 0 these neighbours.
 fn has_shape(device: &Device, row: &str, near: &[u32]) -> bool {
@@ -51,7 +46,7 @@ fn has_pairs(device: &Device, pairs: &str) -> bool {
 }
 
 fn is_device(alloc: Global, row: &str) -> Result<bool, DeviceError> {
-    let (told, text) = row.split_once('\n').unwrap_or((row, ""));
+    let (told, text) = lines_below(row);
     let near = numbers(alloc, field(told, 1))?;
     let device = read_device(alloc, text.as_bytes())?;
     let pairs = field(told, 2);

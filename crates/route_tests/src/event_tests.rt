@@ -7,12 +7,7 @@ use placement::Placement;
 use sabre_route::{Event, route_traced};
 use std::alloc::{AllocError, Global};
 use test_circuits::circuit_of_text;
-use test_rows::{Wrong, each_row, field, small, word};
-
-/// The number of a text, or one that no row has.
-fn number_of(text: &str) -> u32 {
-    text.parse::<u32>().unwrap_or(7777)
-}
+use test_rows::{Wrong, each_row, field, field_number, lines_below, number_of, word};
 
 /// Whether an event is that of a word, as `e1` or `s0,1`.
 fn is_event(event: &Event, word: &str) -> bool {
@@ -59,9 +54,9 @@ fn tells(
 }
 
 fn is_told(alloc: Global, row: &str) -> Result<bool, DeviceError> {
-    let (row, text) = row.split_once('\n').unwrap_or((row, ""));
+    let (row, text) = lines_below(row);
     let device = read_device(alloc, text.as_bytes())?;
-    match circuit_of_text(alloc, small(field(row, 0), 0), field(row, 1))? {
+    match circuit_of_text(alloc, field_number(row, 0), field(row, 1))? {
         Some(circuit) => Ok(tells(alloc, &device, &circuit, field(row, 2))?),
         None => Ok(false),
     }

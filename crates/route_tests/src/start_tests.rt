@@ -2,14 +2,14 @@
 
 use coupling_map::{DeviceError, read_device};
 use std::alloc::Global;
-use test_rows::{Wrong, each_row, field, numbers, small};
+use test_rows::{Wrong, each_row, field, field_number, lines_below, numbers};
 use wire_starts::start;
 
 fn is_start(alloc: Global, row: &str) -> Result<bool, DeviceError> {
-    let (told, text) = row.split_once('\n').unwrap_or((row, ""));
+    let (told, text) = lines_below(row);
     let wanted = numbers(alloc, field(told, 1))?;
     let device = read_device(alloc, text.as_bytes())?;
-    let start = start(alloc, &device, small(field(told, 0), 0))?;
+    let start = start(alloc, &device, field_number(told, 0))?;
     Ok(start.qubits() == wanted.as_slice())
 }
 

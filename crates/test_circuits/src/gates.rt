@@ -56,6 +56,12 @@ pub fn gates_of(alloc: Global, body: &Circuit) -> Result<Vec<Gate>, AllocError>
     Ok(gates)
 }
 
+/// Whether a circuit has the gates of a text.
+pub fn has_gates(alloc: Global, body: &Circuit, text: &str) -> Result<bool, AllocError> {
+    let gates = gates_of(alloc, body)?;
+    Ok(gates.as_slice() == gates_of_text(alloc, text)?.as_slice())
+}
+
 /// The gates of a text, whether they may stand on some wires or not.
 pub fn gates_of_text(alloc: Global, text: &str) -> Result<Vec<Gate>, AllocError> {
     let mut gates = Vec::new(alloc);

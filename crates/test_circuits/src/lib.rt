@@ -1,22 +1,13 @@
-//! What tests share: circuits of tables, random circuits, and comparisons with the plain program.
+//! What tests share: circuits of texts, and gates of circuits.
 //!
-//! In go the text of some gates, some gates, or the kinds from which random gates are drawn; out come circuits, and their gates.
-//! Of two circuits, or of two lists of operations, comes out whether the one is the other up to a turn, entry by entry of their
-//! matrices, as the plain program of `unitary_reference` has them. The contracts say what a test needs to go on safely: the wires of a
-//! circuit, and that random gates may stand on them. A gate that may not stand on the wires gives no circuit; the only error is
-//! want of memory.
+//! In go the text of some gates, or some gates; out come circuits, and their gates. The contracts say what a test needs to go on
+//! safely: the wires of a circuit, and its gates. A gate that may not stand on the wires gives no circuit; the only error is out of
+//! memory.
 //!
 //! A text has three characters for each gate, and a blank between two: `h.0` is H on wire 0, `x.0` X, `2.0` P(2), and `c01` the
 //! CNOT from wire 0 to wire 1.
 #![tactic(auto)]
 
-mod comparison;
 mod gates;
-mod random;
-mod values;
 
-pub use comparison::{are_turned, is_turned, operations};
-pub use gates::{circuit_of, circuit_of_text, gates_of, gates_of_text, is_fine};
-pub use random::{Kind, Random};
-pub use unitary_reference::entries::Value;
-pub use values::{doubled, entry, halvings, sum, turned};
+pub use gates::{circuit_of, circuit_of_text, gates_of, gates_of_text, has_gates, is_fine};

@@ -2,7 +2,7 @@
 //!
 //! A test is proved too, and rows of tuples are dear. So a table is one text with a row on each line. Its words are apart by
 //! single spaces: `word` gives one of them, and `number`, `small` and `numbers` read it. Rows of texts that have spaces of their
-//! own have bars between them: `field` gives one of those. No contract is needed: a word that isn't there, or is no number, reads
+//! own have bars between them: `field` gives one of those, and `field_number` reads it. No contract is needed: a word that isn't there, or is no number, reads
 //! as one that no row has, so that the row fails. The only error is out of memory.
 #![tactic(auto)]
 
@@ -27,9 +27,19 @@ pub fn number(row: &str, at: usize) -> u64 {
     word(row, at).parse::<u64>().unwrap_or(NO_NUMBER as u64)
 }
 
-/// The same, of 32 bits.
+/// The number of a text, of 32 bits.
+pub fn number_of(text: &str) -> u32 {
+    text.parse::<u32>().unwrap_or(NO_NUMBER)
+}
+
+/// The number of a row at an index, of 32 bits.
 pub fn small(row: &str, at: usize) -> u32 {
-    word(row, at).parse::<u32>().unwrap_or(NO_NUMBER)
+    number_of(word(row, at))
+}
+
+/// The number in the field of a row at an index, of 32 bits.
+pub fn field_number(row: &str, at: usize) -> u32 {
+    number_of(field(row, at))
 }
 
 /// The numbers of a word, apart by commas.
@@ -39,7 +49,7 @@ pub fn numbers(alloc: Global, word: &str) -> Result<Vec<u32>, AllocError> {
         return Ok(found);
     }
     'words: for number in word.split(',') {
-        found.push(number.parse::<u32>().unwrap_or(NO_NUMBER))?;
+        found.push(number_of(number))?;
     }
     Ok(found)
 }
@@ -50,6 +60,16 @@ pub fn is_line(bytes: &[u8], line: &str) -> bool {
         Some((last, rest)) => *last == b'\n' && rest == line.as_bytes(),
         None => false,
     }
+}
+
+/// A row's first line, and the lines below it.
+pub fn lines_below(row: &str) -> (&str, &str) {
+    row.split_once('\n').unwrap_or((row, ""))
+}
+
+/// Whether some bytes are these lines, each with its break; none for an empty text.
+pub fn are_lines(bytes: &[u8], lines: &str) -> bool {
+    is_line(bytes, lines) || (bytes.is_empty() && lines.is_empty())
 }
 
 /// Why a table fails.

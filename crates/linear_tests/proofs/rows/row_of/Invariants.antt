@@ -1,5 +1,5 @@
 use Rattle.std.proofs.Common.{◌<◌, ◌^◌}
 use Rattle.linear_tests.proofs.rows.row_of.Given as goal
 
-abbrev pub invariant-wires : goal.invariant-wires
-invariant-wires l = l.row < 2 ^ 3
+abbrev pub invariant-bits : goal.invariant-bits
+invariant-bits l = l.row < 2 ^ l.wires

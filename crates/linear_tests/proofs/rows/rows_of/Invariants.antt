@@ -3,4 +3,4 @@ use Rattle.std.specs.Prelude.{All}
 use Rattle.linear_tests.proofs.rows.rows_of.Given as goal
 
 abbrev pub invariant-masks : goal.invariant-masks
-invariant-masks l = All (λ r. r < 2 ^ 3) l.rows.items
+invariant-masks l = All (λ r. r < 2 ^ l.wires) l.rows.items

@@ -3,7 +3,7 @@ use Rattle.std.proofs.Common.{◌≤◌, List, [], ◌∷◌, length, arith}
 use Rattle.unitary_model.specs.declared.Op.{Op}
 use Rattle.unitary_model.specs.declared.Op.TheVariants.{U, Cx}
 use Rattle.unitary_model.specs.Operations.{weight}
-use Rattle.test_circuits.proofs.values.entry.Goals as goal
+use Rattle.operation_tests.proofs.plain_tests.entry.Goals as goal
 
 weight_most : (us : List Op) → weight us ≤ length us
 weight_most [] = omega arith

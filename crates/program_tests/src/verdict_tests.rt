@@ -1,7 +1,7 @@
 //! The placements of a yes, and a last line without a line break.
 
 use std::alloc::{AllocError, Global};
-use std::test::Fail;
+use test_rows::{Wrong, each_row};
 use trace_verdict::{Verdict, check_trace};
 
 const TWO_T: &[u8] = b"OPENQASM 2.0;\ninclude \"qelib1.inc\";\nqreg q[1];\nt q[0];\nt q[0];\n";
@@ -34,11 +34,16 @@ fn proves(alloc: Global, source: &[u8], target: &[u8], trace: &[u8]) -> Result<b
     Ok(is_yes(&verdict))
 }
 
+/// Whether a trace proves that two T are an S.
+fn joins(alloc: Global, trace: &str) -> Result<bool, AllocError> {
+    proves(alloc, TWO_T, ONE_S, trace.as_bytes())
+}
+
+/// A trace, and the same without a last line break.
+const TRACES: &str =
+    "TRACE 1\njoin 0 1\nplace 0\nemit 0\nend 0\n==TRACE 1\njoin 0 1\nplace 0\nemit 0\nend 0";
+
 #[test]
-fn tells_the_placements(rt: HostRuntime) -> Result<(), Fail> {
-    let ended = b"TRACE 1\njoin 0 1\nplace 0\nemit 0\nend 0\n".as_slice();
-    assert!(rt; proves(rt.alloc(), TWO_T, ONE_S, ended)?);
-    let unended = b"TRACE 1\njoin 0 1\nplace 0\nemit 0\nend 0".as_slice();
-    assert!(rt; proves(rt.alloc(), TWO_T, ONE_S, unended)?);
-    Ok(())
+fn tells_the_placements(rt: HostRuntime) -> Result<(), Wrong> {
+    each_row(rt.alloc(), TRACES, "==", joins)
 }
