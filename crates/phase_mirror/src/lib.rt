@@ -9,7 +9,7 @@
 //! so far. Then it goes along the sevens once. It turns each whose phases then meet more of their opposites among the signs that
 //! came last on their sets.
 //!
-//! A circuit is always fine, so nothing is refused: the only error is want of memory. Time is linear in the gates, but for the
+//! A circuit is always fine, so nothing is refused: a call fails only if memory runs out. Time is linear in the gates, but for the
 //! words of their labels.
 #![tactic(auto)]
 
