@@ -6,9 +6,9 @@
 --   put-other, put-same         whether a sum is put then
 --   stay-none, stay-twice       nothing changed, and one after the other
 use Rattle.std.proofs.Common.{◌≡◌, ℕ, ◌+◌, ◌^◌, ◌<◌, ◌≤◌, Bool, true, cond, List, length, get_or, set, refl, sym, ap, ◌∙◌, arith, inl, inr}
-use Rattle.std.specs.Prelude.{bit_xor, nat_eq, IsTrue}
+use Rattle.std.specs.Prelude.{bit_xor}
 use Rattle.std.specs.Int.{bit_at}
-use Rattle.std.proofs.lemmas.Bool.{both_ways, cases_eq, eq-eqb, ne_eqb}
+use Rattle.std.proofs.lemmas.Bool.{cases_eq, eq-eqb, ne_eqb}
 use Rattle.std.proofs.lemmas.List.{length-set, get_or-set_same, get_or-set_other}
 use Rattle.gray_synth.specs.UnderWay.{AreRetold, StayPut, is_put_at, no_sum, nth_sum, part_at, retold}
 use Rattle.gray_synth.specs.declared.sums.Sum.{Sum}
@@ -42,11 +42,12 @@ retold-end c t i xs ys l h = record {
 }
 
 -- ---- one sum
-pub retold-flipped : (c t : ℕ) (s new : Sum) (b : Bool) → (IsTrue b → bit_at s.part t ≡ 1) × (bit_at s.part t ≡ 1 → IsTrue b) → b ≡ true →
-    new.part ≡ bit_xor s.part (2 ^ c) → new.is_put ≡ s.is_put → new ≡ retold c t s
-retold-flipped c t s new b h e p q =
-    let one : bit_at s.part t ≡ 1 = h.0 (both_ways b e) in
+pub retold-flipped : (c t : ℕ) (s new : Sum) → bit_at s.part t ≡ 1 → new.part ≡ bit_xor s.part (2 ^ c) → new.is_put ≡ s.is_put → new ≡ retold c t s
+retold-flipped c t s new one p q =
     λ k. record { part = (p ∙ sym (ap (λ a. cond a (bit_xor s.part (2 ^ c)) s.part) (eq-eqb (bit_at s.part t) 1 one))) k; is_put = q k }
+
+pub retold-kept : (c t : ℕ) (s : Sum) → (bit_at s.part t ≡ 1 → ⊥) → s ≡ retold c t s
+retold-kept c t s none = λ k. record { part = sym (ap (λ a. cond a (bit_xor s.part (2 ^ c)) s.part) (ne_eqb (bit_at s.part t) 1 none)) k; is_put = s.is_put }
 
 -- ---- one more is put
 module _ (xs ys : List Sum) (i : ℕ) (s : Sum) (l : i < length xs) (e : ys ≡ set xs i s) (part : s.part ≡ part_at xs i) (put : s.is_put ≡ true) where
