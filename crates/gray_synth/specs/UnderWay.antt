@@ -1,6 +1,7 @@
 -- Working form. A synthesis under way.
 --     first_sum r                 a sum where each wire has its own row
---     retold c t s, AreRetold     a sum after row c is added to row t; each of a list
+--     retold_part c t p           what the wires p tell is told by these wires after row c is added to row t
+--     retold c t s, AreRetold     a sum told so; each of a list
 --     no_sum, nth_sum xs i         the sum of a number;  part_at, is_put_at: its fields
 --     StayPut xs ys               the same sums, and those that were put stay so
 --     HasCleared i c t x y        sum i is told without c, if that isn't t, and else as before

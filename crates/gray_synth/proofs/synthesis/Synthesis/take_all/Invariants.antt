@@ -5,7 +5,6 @@ use Rattle.gray_synth.proofs.synthesis.Synthesis.take_all.Given as goal
 
 abbrev pub invariant-sums : goal.invariant-sums
 invariant-sums l = record {
-  many : length l.self.sums.items ≡ length l.initial.self.sums.items;
   put : (n : ℕ) (sums : List ℕ) → IsUnderWay n sums l.initial.self → All (λ r. r ≢ 0) sums → (k : ℕ) → k < l.i → k < length sums → is_put_at l.self.sums.items k ≡ true;
   goes_on : (n : ℕ) (sums : List ℕ) → IsUnderWay n sums l.initial.self → IsUnderWay n sums l.self;
 }
