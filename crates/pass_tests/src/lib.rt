@@ -14,6 +14,8 @@ mod hadamard_tests;
 #[cfg(test)]
 mod merge_tests;
 #[cfg(test)]
+mod mirror_tests;
+#[cfg(test)]
 mod not_tests;
 #[cfg(test)]
 mod passed;

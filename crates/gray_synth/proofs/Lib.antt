@@ -1,0 +1,4 @@
+pub mod PartLaws
+pub mod RetoldLaws
+pub mod StepLaws
+pub mod UnderWayLaws

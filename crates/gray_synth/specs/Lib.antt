@@ -1,0 +1,4 @@
+-- ---- definitions that public clauses reach
+pub mod SumSteps
+-- ---- working forms
+pub mod UnderWay

@@ -1,0 +1,4 @@
+pub mod MirroredLaws
+pub mod SevenLaws
+pub mod SignLaws
+pub mod WalkLaws
