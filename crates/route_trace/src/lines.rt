@@ -61,7 +61,8 @@ pub fn push_head(bytes: &mut Vec<u8>, steps: &Trace, qubits: &[u32]) -> Result<(
     push_one(bytes, b"TRACE", 1)?;
     let lines = steps.lines()?;
     bytes.extend_from_slice(&lines)?;
-    push_place(bytes, qubits)
+    push_place(bytes, qubits)?;
+    Ok(())
 }
 
 /// The line of an event.

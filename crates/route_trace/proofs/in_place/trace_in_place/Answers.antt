@@ -12,6 +12,6 @@ returns-clause-proves c =
     let b = c.args.body.now in
     let own = c.qubits.ensures.value ∙ c.in_ok-own.ensures.identity ∙ ap identity c.wires.ensures.wires in
     let text : c.in_ok-bytes.bytes.items ≡ ended (all_spelt (trace_lines c.args.steps.now (identity b.wires) (emit_lines _) c.args.turn)) =
-    c.in_ok-bytes.ensures.bytes ∙ (λ i. ended (all_spelt (trace_lines c.args.steps.now (own i) (emit_lines (c.len.ensures.length i)) c.args.turn))) in
+    c.in_ok-bytes.ensures.bytes ∙ (λ i. ended (all_spelt (trace_lines c.args.steps.now (own i) (emit_lines (c.len.ensures.value i)) c.args.turn))) in
     in_place-proves c.args.steps.now b.wires b.gates c.args.turn c.in_ok-bytes.bytes.items c.facts.ensures.wires_limit c.facts.ensures.fine c.requires.turn text
     (omega (arith, c.if-len-ge-MOST_TRACE_BYTES.false, c.len-2.ensures))

@@ -4,8 +4,8 @@ use Rattle.route_trace.proofs.lines.push_head.Goals as goal
 
 pub returns : goal.returns
 returns c = record {
-  ok = λ done. head-made c.args.steps.now c.args.qubits.now c.args.bytes.now.items c.push_one.new.bytes.items c.extend_from_slice.new.self.items c.push_place.new.bytes.items
+  ok = head-made c.args.steps.now c.args.qubits.now c.args.bytes.now.items c.push_one.new.bytes.items c.extend_from_slice.new.self.items c.push_place.new.bytes.items
       c.in_ok-push_one.ensures.ok
       (c.in_ok-extend_from_slice.ensures.items ∙ ap (λ x. c.push_one.new.bytes.items ++ x) (c.deref.ensures.value ∙ c.in_ok-lines.ensures.ok))
-      (c.push_place.ensures.ok done);
+      c.in_ok-push_place.ensures.ok;
 }
