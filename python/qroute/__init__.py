@@ -69,7 +69,7 @@ MOST_TRIES = 256
 
 # What each fault means, by its name in the fault line; braces hold keys of that line.
 SAYS = {
-    "Words": "the words mean no command, or `--trace` stands beside `--keep-barriers` or `--clean`, or `--spares` beside `--keep-barriers`, or two of `--trivial`, `--initial` and `--tries` stand together, or the list of `--initial` has a qubit twice, a number above 255, or more than digits and commas, or `--tries` has no number from 1 to 256; the manual, `man docs/qroute.1`, has them all",
+    "Words": "the words mean no command, or `--trace` stands beside `--keep-barriers`, `--clean` or `--spares`, or `--spares` beside `--keep-barriers`, or two of `--trivial`, `--initial` and `--tries` stand together, or the list of `--initial` has a qubit twice, a number above 255, or more than digits and commas, or `--tries` has no number from 1 to 256; the manual, `man docs/qroute.1`, has them all",
     "Input": "the input failed, before its end was read",
     "Output": "the output failed: it holds some first part of the program",
     "Shelf": "a file that was named could not be read",
@@ -590,6 +590,7 @@ def tries_words(tries: int | None) -> list[str]:
 def opt(
     text: str | bytes,
     *,
+    trace: bool = False,
     keep_barriers: bool = False,
     spares: int | None = None,
     any_gates: bool = False,
@@ -598,6 +599,7 @@ def opt(
 ) -> Result:
     """The program on its own qubits, with fewer gates if some are found.
 
+    With `trace` its text is followed by its trace; neither of the next two goes with it (ValueError).
     With `keep_barriers` its barriers outside of gates' bodies are kept, and what is between two is rewritten by itself.
     With `spares`, from 1 to 255, that many wires follow its own, which start and end at zero. T gates are in fewer blocks side by
     side then, if that is possible; barriers can't be kept (ValueError).
@@ -606,19 +608,21 @@ def opt(
     anywhere, and the gates that exporters write. Angles within `within`, which is less than pi/8, of a multiple of pi/4 become
     exact. Proved, part by part, of the program with barriers in place of its other gates: the CNOTs, the Clifford+T gates, the
     placements and the order on each qubit. Tested and not proved: that this is the source written out, with those angles made
-    exact, and that each other gate is put back unchanged where its wire is. Spare wires don't go with it (ValueError).
+    exact, and that each other gate is put back unchanged where its wire is. Neither a trace nor spare wires go with it (ValueError).
 
     >>> found = opt('OPENQASM 2.0; include "qelib1.inc"; qreg q[1]; t q[0]; t q[0];')
     >>> found.text.splitlines()[3:], found.t_before, found.t_after
     (['s q[0];'], 2, 0)
     """
+    if trace and (keep_barriers or spares is not None or any_gates):
+        raise ValueError("there are no traces of programs whose barriers are kept, with spare wires, or that have any gates")
     if keep_barriers and spares is not None:
         raise ValueError("with spare wires no barriers are kept")
     if any_gates:
         if spares is not None:
             raise ValueError("with spare wires there are no other gates")
         return whole.opt(text, keep_barriers=keep_barriers, within=within, timeout=timeout)
-    return result(*run(["opt", *flags(keep_barriers=keep_barriers), *spare_words(spares)], as_bytes(text), timeout))
+    return result(*run(["opt", *flags(trace=trace, keep_barriers=keep_barriers), *spare_words(spares)], as_bytes(text), timeout))
 
 
 def route(

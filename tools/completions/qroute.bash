@@ -14,9 +14,10 @@ _qroute() {
     fi
     case "${COMP_WORDS[1]}" in
         opt)
-            # barriers aren't kept beside spare wires
-            [[ " ${COMP_WORDS[*]:2} " == *" --spares "* ]] || options+=" --keep-barriers"
-            [[ " ${COMP_WORDS[*]:2} " == *" --keep-barriers "* ]] || options+=" --spares"
+            # a trace, kept barriers and spare wires stand alone
+            [[ " ${COMP_WORDS[*]:2} " == *" --keep-barriers "* || " ${COMP_WORDS[*]:2} " == *" --spares "* ]] || options+=" --trace"
+            [[ " ${COMP_WORDS[*]:2} " == *" --trace "* || " ${COMP_WORDS[*]:2} " == *" --spares "* ]] || options+=" --keep-barriers"
+            [[ " ${COMP_WORDS[*]:2} " == *" --trace "* || " ${COMP_WORDS[*]:2} " == *" --keep-barriers "* ]] || options+=" --spares"
             ;;
         stages) options=--spares ;;
         route)

@@ -472,15 +472,14 @@ class CheckTrace(ToolTest):
         for i, line in enumerate(lines):
             self.assertEqual(self.said(given, text, lines[:i] + lines[i + 1 :])[:9], "no, line ", line)
 
-    def test_what_route_writes(self):
-        """The traces of the examples on two devices, where there is a program that writes them."""
+    def test_what_is_written(self):
+        """The traces of the examples on their own wires and on two devices, where there is a program that writes them."""
         if BUILT is None:
             self.skipTest("there is no built program")
         for path in sorted(glob.glob(os.path.join(TOP, "examples/*.qasm"))):
-            for device in ("ibm_tokyo", "ibm_qx5"):
-                words = [BUILT, "route", "--device", os.path.join(TOP, f"devices/{device}.toml"), "--trace"]
-                with self.subTest(path=path, device=device), open(path, "rb") as source:
-                    ran = subprocess.run(words, stdin=source, capture_output=True)
+            for words in (["opt"], *(["route", "--device", os.path.join(TOP, f"devices/{it}.toml")] for it in ("ibm_tokyo", "ibm_qx5"))):
+                with self.subTest(path=path, words=words), open(path, "rb") as source:
+                    ran = subprocess.run([BUILT, *words, "--trace"], stdin=source, capture_output=True)
                     told = json.loads(ran.stderr)
                     said = (0, f"yes {told['phase']}\n", "")
                     target = self.file("t", ran.stdout)

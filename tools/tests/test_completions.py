@@ -27,7 +27,7 @@ class Completions(unittest.TestCase):
         asked qroute bench --start 1 --device devices/line
         asked qroute route --device = devices/line; asked qroute route --device = devices/line_5.toml --
         asked qroute bench --gates = ''; asked qroute amplitude --; asked qroute amplitude --from 01 --
-        asked qroute opt --; asked qroute opt --keep-barriers --; asked qroute route --device d.toml --clean --
+        asked qroute opt --; asked qroute opt --keep-barriers --; asked qroute opt --trace --; asked qroute route --device d.toml --clean --
         asked qroute route --keep-barriers --device d.toml --
         asked qroute opt --spares 4 --; asked qroute opt --spares ''; asked qroute stages --; asked qroute stages --spares 4 --
         asked qroute route --initial 0,1 --; asked qroute route --initial ''
@@ -41,11 +41,11 @@ class Completions(unittest.TestCase):
             found,
             [
                 *("opt route verify check stages amplitude bench", "route", "--device --trivial --initial --tries --trace --keep-barriers --clean"),
-                *("--device --trace --keep-barriers --clean", "--keep-barriers --spares"),
+                *("--device --trace --keep-barriers --clean", "--trace --keep-barriers --spares"),
                 *("devices/line_5.toml", "--trivial --initial --tries", f"--source {asks}", asks, "examples/bell.qasm", "", "examples/ghz.qasm"),
                 *("--start --gates --device", "--start --device", "", "devices/line_5.toml"),
                 *("devices/line_5.toml", "--trivial --initial --tries --trace --keep-barriers --clean", "", "--from --to", "--to"),
-                *("--keep-barriers --spares", "", "--trivial --initial --tries --keep-barriers", "--trivial --initial --tries --clean"),
+                *("--trace --keep-barriers --spares", "", "", "--trivial --initial --tries --keep-barriers", "--trivial --initial --tries --clean"),
                 *("", "", "--spares", "", "--device --trace --keep-barriers --clean", ""),
                 *("--device --trace --keep-barriers --clean", ""),
             ],
@@ -63,7 +63,8 @@ class Completions(unittest.TestCase):
         self.assertEqual(sorted(asked("qroute route --initial 0,1 --")), ["--clean", "--device", "--keep-barriers", "--trace"])
         self.assertEqual(sorted(asked("qroute route --tries 4 --")), ["--clean", "--device", "--keep-barriers", "--trace"])
         self.assertEqual(sorted(asked("qroute route --device d.toml --clean --")), ["--device", "--initial", "--keep-barriers", "--tries", "--trivial"])
-        self.assertEqual(sorted(asked("qroute opt --")), ["--keep-barriers", "--spares"])
+        self.assertEqual(sorted(asked("qroute opt --")), ["--keep-barriers", "--spares", "--trace"])
+        self.assertEqual(asked("qroute opt --trace --"), [])
         self.assertEqual(asked("qroute opt --spares 4 --"), [])
         self.assertEqual(asked("qroute opt --keep-barriers --"), [])
         self.assertEqual(asked("qroute stages --"), ["--spares"])

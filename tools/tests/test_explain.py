@@ -51,7 +51,7 @@ class Explain(ToolTest):
     def test_other_lines_are_passed_over(self):
         status, out, _ = self.explained('qroute: built in 3 seconds\n{"fault":"Words","status":2}')
         self.assertEqual(status, 0)
-        self.assertEqual(out, "Words: the words mean no command, or `--trace` stands beside `--keep-barriers` or `--clean`, or `--spares` beside `--keep-barriers`, or two of `--trivial`, `--initial` and `--tries` stand together, or the list of `--initial` has a qubit twice, a number above 255, or more than digits and commas, or `--tries` has no number from 1 to 256; the manual, `man docs/qroute.1`, has them all\n")
+        self.assertEqual(out, "Words: the words mean no command, or `--trace` stands beside `--keep-barriers`, `--clean` or `--spares`, or `--spares` beside `--keep-barriers`, or two of `--trivial`, `--initial` and `--tries` stand together, or the list of `--initial` has a qubit twice, a number above 255, or more than digits and commas, or `--tries` has no number from 1 to 256; the manual, `man docs/qroute.1`, has them all\n")
         status, out, err = self.explained('{"format":1,"phase":0}')
         self.assertEqual((status, out), (1, ""))
         self.assertIn("no fault line", err)

@@ -68,6 +68,10 @@ class Passes(ToolTest):
         lines = [it[3:] for it in out.decode().splitlines() if it.startswith("//!")]
         place = next(i for i, it in enumerate(lines) if it.startswith("place"))
         self.assertEqual(lines[:place], ["TRACE 1", *wanted.steps], text)
+        out, report = self.ran(["opt", "--trace"], text)
+        own = ["TRACE 1", *wanted.steps, " ".join(["place", *map(str, range(wires))]), *len(wanted.gates) * ["emit 0"], f"end {wanted.turn}"]
+        self.assertEqual(out, text_of(wires, wanted.gates) + "".join(f"//!{it}\n" for it in own).encode(), text)
+        self.assertEqual(report["phase"], wanted.turn, text)
         return {it.split()[0] for it in wanted.steps}
 
     def each(self, check, rows):

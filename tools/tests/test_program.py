@@ -124,21 +124,23 @@ class Program(ToolTest):
                 words = f"amplitude --from {begin}0000 --to {end}{spares}"
                 self.assertEqual(self.ran(words, text), (0, entry, b""), words)
 
-    def verdict(self, name, source, target):
+    def verdict(self, name, source, target, more=""):
         with open(os.path.join(self.room, f"{name}.s"), "wb") as file:
             file.write(HEADING + source.encode())
         with open(os.path.join(self.room, f"{name}.t"), "wb") as file:
             file.write(target)
-        return self.ran(f"verify --source {name}.s --target {name}.t")
+        return self.ran(f"verify --source {name}.s --target {name}.t{more}")
 
-    def verifies(self, name, device, program):
+    def verifies(self, name, words, program):
         """The program and the report are those without a trace, the trace proves the report's phase, and needs each line."""
-        plain = self.ran(f"route --device {device}", program)
-        status, out, report = self.ran(f"route --device {device} --trace", program)
+        plain = self.ran(words, program)
+        status, out, report = self.ran(f"{words} --trace", program)
         self.assertEqual((plain[0], status, report), (0, 0, plain[2]), program)
         self.assertTrue(out.startswith(plain[1]), program)
         yes = f"yes {json.loads(report)['phase']}\n".encode()
-        self.assertEqual(self.verdict(name, program, out), (0, yes, b""), program)
+        asks = " --reads --in-place" if words == "opt" else f" --reads --device {words.split()[-1]}"
+        for more in ("", asks):
+            self.assertEqual(self.verdict(name, program, out, more), (0, yes, b""), program)
         trace = out[len(plain[1]) :].splitlines(True)
         self.assertGreater(len(trace), 2)
         for number in range(len(trace)):
@@ -147,7 +149,8 @@ class Program(ToolTest):
             self.assertEqual((status, out), (1, b""), (program, number))
 
     def test_what_is_written_is_verified(self):
-        rows = [(device, program) for device in ("both", "one", "costs") for program in PROGRAMS]
+        calls = ("opt", *(f"route --device {it}" for it in ("both", "one", "costs")))
+        rows = [(words, program) for words in calls for program in PROGRAMS]
         self.each(self.verifies, [(str(i), *it) for i, it in enumerate(rows)])
 
     def routes(self, start):

@@ -193,6 +193,11 @@ class Module(StoodIn):
         self.assertEqual(self.given("words").split()[3:], ["--trace"])
         qroute.route(SOURCE, qroute.Device.of([(0, 1)]), True, trace=True)
         self.assertEqual(self.given("words").split()[3:], ["--trivial", "--trace"])
+        self.assertEqual(qroute.opt(SOURCE, trace=True).trace, ("TRACE 1", "end 0"))
+        self.assertEqual(self.given("words"), "opt\n--trace\n")
+        for more in ({"keep_barriers": True}, {"spares": 1}, {"any_gates": True}):
+            with self.assertRaises(ValueError):
+                qroute.opt(SOURCE, trace=True, **more)
         self.answers(0, "written\n", REPORT)
         self.assertEqual(qroute.opt(SOURCE).trace, ())
         self.answers(0, "yes 6\n")

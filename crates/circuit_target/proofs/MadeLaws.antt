@@ -1,12 +1,14 @@
 -- What is made of all parts of a source.
 --   zip-each, each-routed  what holds of each part that is made
 --   IsOwnTrace-parts       the trace is that of the one part
+--   IsOwnTrace-placed      .. and on its own wires
 --   Stands-placed, IsFit-placed   a target on its own wires stands for the source, and can be written
 --   Stands-routed, IsFit-routed   .. and one on the qubits of a device
 --   wide-placed, turns-placed, sizes-placed   what calls ask of parts on their own wires
 --   optimised-wires, optimised-turns, optimised-fits   .. of parts that were rewritten
 --   wide-routed, turns-routed, sizes-routed, last-long, swaps-few, edges-followed, cost-few   .. and of parts that were routed
 --   Stands-asked, silent-or   what is made of them, with a trace or without
+--   none_told              steps that aren't told are none
 use Rattle.std.proofs.Common.{◌≡◌, ℕ, ◌+◌, ◌*◌, ◌%◌, ◌<◌, ◌≤◌, ◌⊎◌, inl, inr, Bool, true, false, List, ◌∷◌, Option, None, Some, All, Result, arith, is_some, length, map, append-nil, refl, sym, subst, ap, ◌∙◌, []}
 use Rattle.std.specs.Prelude.{IfOk, IfSome, sum_by}
 use Rattle.std.specs.List.{AllByRecursion, AllZip}
@@ -42,9 +44,9 @@ use Rattle.unitary_model.proofs.PlacementLaws.{identity_placement}
 use Rattle.routed_parts.specs.Costs.{told_cost}
 use Rattle.routed_parts.specs.Tries.{ahead_of}
 use Rattle.wire_starts.specs.declared.Starts.{Starts}
-use Rattle.circuit_target.specs.Standing.{IsInPlace, IsOnQubits, IsOwnTrace}
+use Rattle.circuit_target.specs.Standing.{IsInPlace, IsOnQubits, IsOwnTrace, claim_of}
 use Rattle.circuit_target.specs.Targets.{IsFit, Stands, target_program, HasSteps, IsOptimised, IsTold}
-use Rattle.circuit_target.specs.Making.{AreRoutedParts, AreTraced, AreWritten, IsAssembled, IsOnSize, IsPlacedPart, IsRoutedPart, IsRunTrace, are_told, part_gates, last_of, parts_of, turns_of}
+use Rattle.circuit_target.specs.Making.{ArePlacedTraced, AreRoutedParts, AreTraced, AreWritten, IsAssembled, IsOnSize, IsPlacedPart, IsRoutedPart, IsRunTrace, are_told, part_gates, last_of, parts_of, turns_of}
 use Rattle.circuit_target.specs.declared.parts.PartTarget.{PartTarget}
 use Rattle.circuit_target.specs.declared.passes.Rewritten.{Rewritten}
 use Rattle.circuit_target.specs.declared.target.Target.{Target}
@@ -142,20 +144,49 @@ still-together keep s ms t cut all bars a placed wires initial last =
     (weaken parts (λ p h. h.t_gates) still)
     (omega (arith, few, ap cx_count (targets-target s ms t many a.gates), ap cx_count (sources-source s ms many all)))
 
-pub Stands-placed : (keep : Bool) (s : Program) (ms : List PartTarget) (t : Target) → IsCut s.cut → whole s.cut.parts ≡ s.ops → All (IsBarrier s.wires) s.cut.bars
+-- the trace of the one part is that of the source
+pub IsOwnTrace-placed : (traced : Bool) (s : Program) (ms : List PartTarget) (t : Target) (told : Report) → (traced ≡ true → s.cut ≡ uncut s.ops)
+    → AllZip (IsPlacedPart s.wires) s.cut.parts ms → (traced ≡ true → ArePlacedTraced s.wires s.cut.parts ms t.trace.items)
+    → (traced ≡ false → t.trace.items ≡ []) → length s.ops ≤ most_operations → t.body.gates ≡ whole (map (λ m. m.body.gates) ms) → t.body.wires ≡ s.wires
+    → t.initial ≡ identity s.wires → t.last ≡ identity s.wires → t.turn ≡ turns_of ms % 8 → IsTold t told
+    → IsOwnTrace traced s (target_program s t) told t.trace.items
+IsOwnTrace-placed false s ms t told one placed traced silent few gates wires initial last turn r = silent refl
+IsOwnTrace-placed true s ms t told one placed traced silent few gates wires initial last turn r =
+    let parts : s.cut.parts ≡ s.ops ∷ [] = ap (λ c. c.parts) (one refl) in
+    go ms (subst (λ uss. AllZip (IsPlacedPart s.wires) uss ms) parts placed)
+    (subst (λ uss. ArePlacedTraced s.wires uss ms t.trace.items) parts (traced refl)) gates turn
+  where
+    sum : (k : PartTarget) → k.turn < 8 → turns_of (k ∷ []) % 8 ≡ k.turn
+    sum k less = omega (arith, less, sum_by-cons (λ (m : PartTarget). m.turn) k [])
+
+    go : (ms : List PartTarget) → AllZip (IsPlacedPart s.wires) (s.ops ∷ []) ms → ArePlacedTraced s.wires (s.ops ∷ []) ms t.trace.items
+        → t.body.gates ≡ whole (map (λ m. m.body.gates) ms) → t.turn ≡ turns_of ms % 8 → IsOwnTrace true s (target_program s t) told t.trace.items
+    go [] h traced gates turn = absurd h
+    go (m ∷ n ∷ ms) h traced gates turn = absurd h.1
+    go (m ∷ []) h traced gates turn =
+        let begins = r.initial ∙ initial in
+        let ends = r.last ∙ last in
+        let phase : told.phase ≡ m.turn = r.phase ∙ turn ∙ sum m h.0.optimised.below in
+        let proved = traced (claim_of s (target_program s t)) refl refl wires (ap ops (gates ∙ append-nil m.body.gates)) few in
+        rw (begins, ends, phase) proved
+
+pub Stands-placed : (keep traced : Bool) (s : Program) (ms : List PartTarget) (t : Target) → IsCut s.cut → whole s.cut.parts ≡ s.ops → All (IsBarrier s.wires) s.cut.bars
     → IsAssembled keep s ms t → AllZip (IsPlacedPart s.wires) s.cut.parts ms → t.body.wires ≡ s.wires → t.swaps ≡ 0 → t.initial ≡ identity s.wires
-    → t.last ≡ identity s.wires → t.cost ≡ None → t.trace.items ≡ [] → t.spares ≡ None → Stands s keep false (IsInPlace s) t
-Stands-placed keep s ms t cut all bars a placed wires swaps initial last cost trace alone =
-    Stands-still keep s ms t (still-together keep s ms t cut all bars a placed wires initial last) (AreStill-placed s.wires s.cut.parts ms placed) wires swaps
-    initial last cost trace alone
+    → t.last ≡ identity s.wires → t.cost ≡ None → (traced ≡ true → s.cut ≡ uncut s.ops)
+    → (traced ≡ true → ArePlacedTraced s.wires s.cut.parts ms t.trace.items) → (traced ≡ false → t.trace.items ≡ []) → length s.ops ≤ most_operations
+    → t.spares ≡ None → Stands s keep traced (IsInPlace s) t
+Stands-placed keep traced s ms t cut all bars a placed wires swaps initial last cost one told silent few alone =
+    Stands-still keep traced s ms t (still-together keep s ms t cut all bars a placed wires initial last) (AreStill-placed s.wires s.cut.parts ms placed) wires
+    swaps initial last cost
+    (λ report r. IsOwnTrace-placed traced s ms t report one placed told silent few a.gates wires initial last a.turn r)
+    alone
 
 pub IsFit-placed : (keep : Bool) (s : Program) (ms : List PartTarget) (t : Target) → IsCut s.cut → whole s.cut.parts ≡ s.ops → All (IsBarrier s.wires) s.cut.bars
     → IsAssembled keep s ms t → AllZip (IsPlacedPart s.wires) s.cut.parts ms → t.body.wires ≡ s.wires → t.initial ≡ identity s.wires
-    → t.last ≡ identity s.wires → t.trace.items ≡ [] → IsFit s t
+    → t.last ≡ identity s.wires → ended (lines_of t.trace.items) ≡ t.trace.items → IsFit s t
 IsFit-placed keep s ms t cut all bars a placed wires initial last trace =
     let is = still-together keep s ms t cut all bars a placed wires initial last in
-    IsFit-parts keep s ms t cut bars a is.many is.realised (omega (arith, wires)) (ap length last ∙ (identity_placement s.wires).long ∙ sym wires)
-    (ap (λ (v : List ℕ). ended (lines_of v)) trace ∙ sym trace)
+    IsFit-parts keep s ms t cut bars a is.many is.realised (omega (arith, wires)) (ap length last ∙ (identity_placement s.wires).long ∙ sym wires) trace
 
 -- what calls ask of parts on their own wires
 pub wide-placed : (n : ℕ) (uss : List (List Op)) (ms : List PartTarget) → AllZip (IsPlacedPart n) uss ms → All (λ m. n ≤ length m.last) ms
@@ -332,7 +363,7 @@ Stands-asked d s x rs ss keep clean trace starts same cut o asked stands =
     let told : are_told ss ≡ trace = ap are_told same ∙ told_asked rs trace (some-rewritten s.wires s.cut rs cut o) asked in
     subst (λ b. IfOk x (Stands s keep b (IsOnQubits d starts clean s))) told stands
 
-none_told : (o : Option (List Step)) → is_some o ≡ false → o ≡ None
+pub none_told : (o : Option (List Step)) → is_some o ≡ false → o ≡ None
 none_told None e = refl
 none_told (Some ss) e = absurd (cc)
 

@@ -4,6 +4,8 @@
 --   whole-more             the gates of one part more
 --   placed-more, placed-all, lasts-taken   what their barriers are, and where the wires stand between them
 --   AreTraced-more, trace-first   the trace of one part more, and of the first
+--   ArePlacedTraced-more   .. and on its own wires
+--   take-mapped            one element more of a list that is mapped
 --   part-of_source         what is known of a part
 use Rattle.std.proofs.Common.{◌≡◌, ℕ, zero, suc, ◌+◌, ◌-◌, ◌<◌, ◌≤◌, Bool, List, ◌∷◌, ◌++◌, Some, All, append_assoc, is_some, get_or, length, map, take, refl, sym, subst, ap, ◌∙◌, arith, []}
 use Rattle.std.specs.Prelude.{slice_get, slice_index, sum_by}
@@ -25,7 +27,7 @@ use Rattle.unitary_model.specs.declared.Op.{Op}
 use Rattle.program_parts.specs.Cuts.{Cut, IsCut, whole}
 use Rattle.program_parts.proofs.CutLaws.{whole-append, whole-one}
 use Rattle.circuit_target.specs.InParts.{between, placed_barriers}
-use Rattle.circuit_target.specs.Making.{AreRoutedParts, AreTraced, AreWritten, IsTraceOf, are_told, part_gates, last_of, lasts_but_one, part_of, parts_of, turns_of}
+use Rattle.circuit_target.specs.Making.{ArePlacedTraced, AreRoutedParts, AreTraced, AreWritten, IsPlacedTrace, IsTraceOf, are_told, part_gates, last_of, lasts_but_one, part_of, parts_of, turns_of}
 use Rattle.circuit_target.specs.Targets.{IsOptimised}
 use Rattle.circuit_target.specs.declared.parts.PartTarget.{PartTarget}
 use Rattle.circuit_target.specs.declared.passes.Rewritten.{Rewritten}
@@ -143,6 +145,14 @@ AreTraced-more d given (q ∷ rs) [] r m trace e is = absurd (cc)
 AreTraced-more d given (q ∷ []) (n ∷ ms) r m trace e is = tt
 AreTraced-more d given (q ∷ p ∷ rs) (n ∷ ms) r m trace e is = tt
 
+pub ArePlacedTraced-more : (n : ℕ) (uss : List (List Op)) (ms : List PartTarget) (us : List Op) (m : PartTarget) (trace : List ℕ) → length ms ≡ length uss
+    → IsPlacedTrace n us m trace → ArePlacedTraced n (uss ++ us ∷ []) (ms ++ m ∷ []) trace
+ArePlacedTraced-more n [] [] us m trace e is = is
+ArePlacedTraced-more n [] (k ∷ ms) us m trace e is = absurd (cc)
+ArePlacedTraced-more n (vs ∷ uss) [] us m trace e is = absurd (cc)
+ArePlacedTraced-more n (vs ∷ []) (k ∷ ms) us m trace e is = tt
+ArePlacedTraced-more n (vs ∷ ws ∷ uss) (k ∷ ms) us m trace e is = tt
+
 -- ---- loops
 pub at_place : {A : Type 0} (P : A → Type 0) (xs : List A) (i : ℕ) (x : A) → All P xs → i < length xs → x ≡ get_or xs i x → P x
 at_place P xs i x all lt is = subst P (sym is) (all i x lt)
@@ -167,18 +177,18 @@ circuits-more rs k r old new lt is e f =
     ∙ sym (ap (λ ns. whole (part_gates ns)) (take-next rs k r lt is) ∙ ap whole (map-append (λ r. r.passed.body.gates) (take k rs) (r ∷ []))
     ∙ whole-append (part_gates (take k rs)) (r.passed.body.gates ∷ []) ∙ ap (λ gs. whole (part_gates (take k rs)) ++ gs) (whole-one r.passed.body.gates))
 
+pub take-mapped : {A B : Type 0} (f : A → B) (xs : List A) (k : ℕ) (x : A) → k < length xs → x ≡ get_or xs k x → take (k + 1) (map f xs) ≡ take k (map f xs) ++ f x ∷ []
+take-mapped f [] k x lt is = absurd (omega (arith, lt))
+take-mapped f (z ∷ xs) zero x lt is = ap (λ y. f y ∷ []) (sym is)
+take-mapped f (z ∷ xs) (suc k) x lt is =
+    let on : suc k + 1 ≡ suc (k + 1) = omega arith in
+    ap (λ j. take j (map f (z ∷ xs))) on ∙ ap (λ zs. f z ∷ zs) (take-mapped f xs k x (omega (arith, lt)) is)
+
 pub zip-more : {A B C : Type 0} (R : B → C → Type 0) (f : A → B) (xs : List A) (ys : List C) (k : ℕ) (x : A) (y : C) → k < length xs → x ≡ get_or xs k x
     → AllZip R (take k (map f xs)) ys → R (f x) y → AllZip R (take (k + 1) (map f xs)) (ys ++ y ∷ [])
 zip-more R f xs ys k x y lt is h r =
-    subst (λ l. AllZip R l (ys ++ y ∷ [])) (sym (mapped f xs k x lt is)) (zip-push R (take k (map f xs)) ys (f x) y h r)
+    subst (λ l. AllZip R l (ys ++ y ∷ [])) (sym (take-mapped f xs k x lt is)) (zip-push R (take k (map f xs)) ys (f x) y h r)
   where
-    mapped : {A B : Type 0} (f : A → B) (xs : List A) (k : ℕ) (x : A) → k < length xs → x ≡ get_or xs k x → take (k + 1) (map f xs) ≡ take k (map f xs) ++ f x ∷ []
-    mapped f [] k x lt is = absurd (omega (arith, lt))
-    mapped f (z ∷ xs) zero x lt is = ap (λ y. f y ∷ []) (sym is)
-    mapped f (z ∷ xs) (suc k) x lt is =
-        let on : suc k + 1 ≡ suc (k + 1) = omega arith in
-        ap (λ j. take j (map f (z ∷ xs))) on ∙ ap (λ zs. f z ∷ zs) (mapped f xs k x (omega (arith, lt)) is)
-
     zip-push : {B C : Type 0} (R : B → C → Type 0) (xs : List B) (ys : List C) (x : B) (y : C) → AllZip R xs ys → R x y → AllZip R (xs ++ x ∷ []) (ys ++ y ∷ [])
     zip-push R [] [] x y h r = (r, tt)
     zip-push R [] (z ∷ ys) x y h r = absurd h

@@ -227,10 +227,12 @@ StandsFor-put_together keep s ms t told is r =
       t_gates = is.t_gates;
     }
 
-pub Stands-still : (keep : Bool) (s : Program) (ms : List PartTarget) (t : Target) → IsPutTogether keep s ms t → AllByRecursion (IsPartInPlace s.wires) (parts_of s.cut.parts ms)
-    → t.body.wires ≡ s.wires → t.swaps ≡ 0 → t.initial ≡ identity s.wires → t.last ≡ identity s.wires → t.cost ≡ None → t.trace.items ≡ []
-    → t.spares ≡ None → Stands s keep false (IsInPlace s) t
-Stands-still keep s ms t is still wires swaps initial last cost trace alone = record {
+pub Stands-still : (keep traced : Bool) (s : Program) (ms : List PartTarget) (t : Target) → IsPutTogether keep s ms t
+    → AllByRecursion (IsPartInPlace s.wires) (parts_of s.cut.parts ms)
+    → t.body.wires ≡ s.wires → t.swaps ≡ 0 → t.initial ≡ identity s.wires → t.last ≡ identity s.wires → t.cost ≡ None
+    → ((told : Report) → IsTold t told → IsOwnTrace traced s (target_program s t) told t.trace.items)
+    → t.spares ≡ None → Stands s keep traced (IsInPlace s) t
+Stands-still keep traced s ms t is still wires swaps initial last cost trace alone = record {
   parts = parts_of s.cut.parts ms;
   stands = λ told r. StandsFor-put_together keep s ms t told is r;
   placed = λ told r. record {
@@ -244,7 +246,7 @@ Stands-still keep s ms t is still wires swaps initial last cost trace alone = re
   };
   tells = is.assembled.tells;
   alone = alone;
-  trace = λ told r. trace;
+  trace = trace;
 }
   where
     each : {P : Part → Type 0} (ps : List Part) → ((p : Part) → IsPartInPlace s.wires p → P p) → AllByRecursion (IsPartInPlace s.wires) ps → AllByRecursion P ps

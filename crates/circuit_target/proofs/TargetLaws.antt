@@ -4,6 +4,7 @@
 --   IsSettled-few          with one gate or none it is settled
 --   IsOptimised-rewritten  expanded, and then rewritten to a settled circuit
 --   HasSteps-summed        .. with the steps that led there
+--   IsPlacedTrace-told     .. and a trace that proves it of its own part
 --   IsOwnTrace-run         the trace of the run proves what the target claims
 --   IsTraceOf-run          what is written as it was routed has the trace of its run
 use Rattle.std.proofs.Common.{◌≡◌, ◌≢◌, ℕ, ◌+◌, ◌%◌, ◌<◌, ◌≤◌, Bool, true, false, cond, List, [], ◌∷◌, Option, None, Some, All, length, nat_eq, refl, sym, ◌∙◌, ap, subst, arith, is_some}
@@ -17,6 +18,7 @@ use Rattle.circuit_list.specs.declared.Passed.{Passed}
 use Rattle.unitary_model.specs.declared.Op.{Op}
 use Rattle.unitary_model.specs.OddPaths.{first_walk, odd_paths, toggle_at, toggle_odd}
 use Rattle.unitary_model.specs.Operations.{cx_count, t_count}
+use Rattle.unitary_model.specs.Placement.{identity}
 use Rattle.unitary_model.specs.SameUpTo.{SameUpTo}
 use Rattle.unitary_model.proofs.AmplitudeLaws.{SameUpTo_refl, SameUpTo_trans}
 use Rattle.commute_rules.specs.Reducible.{NoReducible}
@@ -30,11 +32,12 @@ use Rattle.rewrite_pass.specs.Windows.IsWindow.{HadSHad, HadSdgHad, HadZHad, Had
 use Rattle.rewrite_pass.specs.Law.{IsRewriting}
 use Rattle.coupling_map.specs.Coupling.{Coupling}
 use Rattle.sabre_route.specs.declared.router.Routed.{Routed}
+use Rattle.trace_model.specs.Proves.{Proves}
 use Rattle.routed_parts.specs.RoutedParts.{IsCleaned}
 use Rattle.routed_parts.specs.Settled.{IsSettled}
 use Rattle.circuit_target.specs.Standing.{claim_of, IsOwnTrace}
 use Rattle.circuit_target.specs.Targets.{HasSteps, IsOptimised}
-use Rattle.circuit_target.specs.Making.{IsRunTrace, IsTraceOf}
+use Rattle.circuit_target.specs.Making.{IsPlacedTrace, IsRunTrace, IsTraceInPlace, IsTraceOf}
 use Rattle.circuit_target.specs.declared.parts.PartTarget.{PartTarget}
 use Rattle.circuit_target.specs.declared.passes.Rewritten.{Rewritten}
 
@@ -116,6 +119,17 @@ HasSteps-summed n S e r t (Some ss) wires gates turn sum h = record {
   steps = rw (wires, gates) at h;
   sum = rw turn at sum;
 }
+
+-- the trace of a circuit on its own wires is that of its part
+pub IsPlacedTrace-told : (n : ℕ) (us : List Op) (c : Passed) (o : Option (List Step)) (m : PartTarget) (trace : List ℕ) (traced : Bool) → is_some o ≡ traced
+    → IfSome o (HasSteps n us c) → IfSome o (λ ss. IsTraceInPlace c ss trace) → c.body.wires ≡ n → All (IsFineOp n) us → m.body.gates ≡ c.body.gates
+    → m.turn ≡ c.turn → traced ≡ true → IsPlacedTrace n us m trace
+IsPlacedTrace-told n us c None m trace traced asked steps told width fine gates turn is = let none : false ≡ true = asked ∙ is in absurd (cc)
+IsPlacedTrace-told n us c (Some ss) m trace traced asked steps told width fine gates turn is = λ e source wires qubits target few.
+    let proved = told e steps.turn (wires ∙ sym width) (qubits ∙ sym width) (rw source few) (rw (source, wires) fine) (rw (source, wires) steps.steps)
+    (target ∙ ap ops gates) (steps.sum ∙ ap (λ vs. (turn_of vs + steps.turn) % 8) (sym source)) in
+    subst (λ k. Proves e trace (identity k) (identity k) m.turn) width
+    (subst (λ j. Proves e trace (identity c.body.wires) (identity c.body.wires) j) (sym turn) proved)
 
 -- the trace of the run is that of the source
 pub IsOwnTrace-run : (d : Coupling) (n : ℕ) (S : List Op) (c : Passed) (o : Option (List Step)) (given : List ℕ) (r : Routed) (s : Program) (t : Program)

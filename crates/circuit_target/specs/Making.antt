@@ -2,7 +2,10 @@
 --   IsRunOf ahead d n gates given r   what holds of a run of the routing machine over gates on n wires
 --   IsRunTrace d c ss given r j trace   the trace proves each claim from a source whose gates the steps lead from, to
 --                        the operations of the run r over the circuit c, up to the turn j
+--   IsTraceInPlace c ss trace   the trace proves each claim from a source whose gates the steps lead from, to the
+--                        operations of the circuit c on its own wires, up to its turn
 --   IsPlacedPart n us m  what is written for the part us of a source on its own wires
+--   IsPlacedTrace n us m trace   the trace proves that it realises the part us;  ArePlacedTraced: .. where it is the only part
 --   IsRoutedPart ahead d clean given w r m   what is written for a part, which was rewritten to w, on the qubits of a
 --                        device: what is left of the machine's run r;  IsWrittenPart: .. of some run
 --   AreRoutedParts d along clean given ws rs ms   the same of all parts, each from where the one before it ended
@@ -68,10 +71,24 @@ IsRunTrace d c ss given r j trace = (e : Claim) (t : ℕ) → e.wires ≡ c.body
     → AreSteps e.wires (expanded e.source) ss c.body.gates t → e.target ≡ ops r.body.gates
     → j ≡ (turn_of e.source + (t + r.turn)) % 8 → Proves e trace given r.last j
 
+abbrev pub IsTraceInPlace : Passed → List Step → List ℕ → Type 0
+IsTraceInPlace c ss trace = (e : Claim) (t : ℕ) → e.wires ≡ c.body.wires → e.qubits ≡ c.body.wires
+    → length e.source ≤ most_operations → All (IsFineOp e.wires) e.source
+    → AreSteps e.wires (expanded e.source) ss c.body.gates t → e.target ≡ ops c.body.gates
+    → c.turn ≡ (turn_of e.source + t) % 8 → Proves e trace (identity c.body.wires) (identity c.body.wires) c.turn
+
 pub record IsPlacedPart (n : ℕ) (us : List Op) (m : PartTarget) : Type 0 where
   pub optimised : IsOptimised n us (record { body = m.body; turn = m.turn })
   pub last : m.last ≡ identity n
   pub swaps : m.swaps ≡ 0
+
+abbrev pub IsPlacedTrace : ℕ → List Op → PartTarget → List ℕ → Type 0
+IsPlacedTrace n us m trace = (e : Claim) → e.source ≡ us → e.wires ≡ n → e.qubits ≡ n → e.target ≡ ops m.body.gates
+    → length us ≤ most_operations → Proves e trace (identity n) (identity n) m.turn
+
+abbrev pub ArePlacedTraced : ℕ → List (List Op) → List PartTarget → List ℕ → Type 0
+ArePlacedTraced n (us ∷ []) (m ∷ []) trace = IsPlacedTrace n us m trace
+ArePlacedTraced n _ _ trace = Unit {0}
 
 pub record IsRoutedPart (ahead : Ahead) (d : Coupling) (clean : Bool) (given : List ℕ) (w : Rewritten) (r : Routed)
     (m : PartTarget) : Type 0 where

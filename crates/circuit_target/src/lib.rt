@@ -1,6 +1,6 @@
 //! The circuit that is to be written for a program: rewritten part by part, and routed where there is a device.
 //!
-//! In goes a program in parts, as one that was read; for [`routed`] a device too, what is asked for, and who writes the trace. Out
+//! In goes a program in parts, as one that was read, and who writes the trace; for [`routed`] a device too, and what is asked for. Out
 //! comes a [`Target`]: its gates, on its own wires or on the device's qubits, the barriers between its parts, where the wires begin
 //! and end, the swaps, the turn, and what the report tells of costs and parts. The contracts say that the target stands for the
 //! program (`Stands`): it has its unitary, up to the turn and between the placements, as a whole and part by part; no part has more T

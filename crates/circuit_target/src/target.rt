@@ -12,7 +12,7 @@ ghost use Rattle.sabre_route.specs.Ahead.{Ahead, IsLookoutOver};
 ghost use Rattle.sabre_route.specs.Telling.{IsRoutedBy};
 ghost use Rattle.circuit_target.specs.Standing.{IsInPlace, IsOnQubits};
 ghost use Rattle.circuit_target.specs.Targets.{IsFit, Stands, HasSteps, IsOptimised};
-ghost use Rattle.circuit_target.specs.Making.{AreTraced, AreWritten, IsPlacedPart, IsRunOf, IsRunTrace, IsTraceOf, IsWrittenPart, are_told, part_gates, last_of};
+ghost use Rattle.circuit_target.specs.Making.{ArePlacedTraced, AreTraced, AreWritten, IsPlacedPart, IsPlacedTrace, IsRunOf, IsRunTrace, IsTraceInPlace, IsTraceOf, IsWrittenPart, are_told, part_gates, last_of};
 ghost use Rattle.circuit_target.specs.Trying.{IsLookingOver, IsRoute};
 ghost use Rattle.circuit_list.specs.Gates.{ops};
 ghost use Rattle.unitary_model.specs.Operations.{cx_count};
@@ -116,47 +116,113 @@ fn qubits_of(alloc: Global, placement: &Placement) -> Result<Wires, AllocError>
     Wires::shared(alloc, Vec::from_slice(alloc, placement.qubits())?)
 }
 
-/// A part of a source after all passes, on its own wires.
-fn placed_part(alloc: Global, part: &Ops, own: &Wires) -> Result<PartTarget, AllocError>
+/// The bytes of the trace of a circuit that was rewritten and stays on its own wires, where its steps are told; else none.
+fn trace_on_wires<T: RunTraces>(
+    alloc: Global,
+    traces: &T,
+    rewritten: &Rewritten,
+) -> Result<Vec<u8>, AllocError>
+    requires turn { rewritten.now.passed.turn < 8 }
+    ensures told { IfOk result (λ v. IfSome rewritten.now.steps (λ ss. IsTraceInPlace rewritten.now.passed ss v.items)) }
+    ensures silent { IfOk result (λ v. rewritten.now.steps ≡ None → v.items ≡ []) }
+    ensures lines { IfOk result (λ v. ended (lines_of v.items) ≡ v.items) }
+{
+    match &rewritten.steps {
+        None => Ok(Vec::new(alloc)),
+        Some(steps) => traces.trace_in_place(
+            alloc,
+            steps,
+            &rewritten.passed.body,
+            rewritten.passed.turn,
+        ),
+    }
+}
+
+/// A part on its own wires, and its trace.
+#[derive(Drop)]
+struct PlacedPart {
+    made: PartTarget,
+    trace: Vec<u8>,
+}
+
+/// A part of a source after all passes, on its own wires, and its trace where one is asked for.
+fn placed_part<T: RunTraces>(
+    alloc: Global,
+    traces: &T,
+    part: &Ops,
+    own: &Wires,
+    traced: bool,
+) -> Result<PlacedPart, AllocError>
     requires wires_limit { part.now.wires ≤ most_wires }
     requires fine { All (IsFineOp part.now.wires) part.now.list }
     requires own { own.now ≡ identity part.now.wires }
-    ensures { IfOk result (IsPlacedPart part.now.wires part.now.list) }
+    ensures placed { IfOk result (λ p. IsPlacedPart part.now.wires part.now.list p.made) }
+    ensures told { IfOk result (λ p. traced ≡ true → IsPlacedTrace part.now.wires part.now.list p.made p.trace.items) }
+    ensures silent { IfOk result (λ p. traced ≡ false → p.trace.items ≡ []) }
+    ensures lines { IfOk result (λ p. ended (lines_of p.trace.items) ≡ p.trace.items) }
 {
-    let Rewritten { passed, .. } = optimised(alloc, part, false)?;
-    Ok(PartTarget {
+    let rewritten = optimised(alloc, part, traced)?;
+    let trace = trace_on_wires(alloc, traces, &rewritten)?;
+    let Rewritten { passed, .. } = rewritten;
+    let made = PartTarget {
         body: passed.body,
         last: own.copy()?,
         swaps: 0,
         turn: passed.turn,
-    })
+    };
+    Ok(PlacedPart { made, trace })
+}
+
+/// All parts on their own wires. The trace is that of the last part.
+#[derive(Drop)]
+struct PlacedParts {
+    made: Vec<PartTarget>,
+    trace: Vec<u8>,
 }
 
 /// All parts of a source after all passes, on their own wires.
-fn placed_parts(alloc: Global, source: &PartedProgram) -> Result<Vec<PartTarget>, AllocError>
-    ensures { IfOk result (λ v. AllZip (IsPlacedPart source.now.wires) source.now.cut.parts v.items) }
+fn placed_parts<T: RunTraces>(
+    alloc: Global,
+    traces: &T,
+    source: &PartedProgram,
+    traced: bool,
+) -> Result<PlacedParts, AllocError>
+    ensures placed { IfOk result (λ p. AllZip (IsPlacedPart source.now.wires) source.now.cut.parts p.made.items) }
+    ensures told { IfOk result (λ p. traced ≡ true → ArePlacedTraced source.now.wires source.now.cut.parts p.made.items p.trace.items) }
+    ensures silent { IfOk result (λ p. traced ≡ false → p.trace.items ≡ []) }
+    ensures lines { IfOk result (λ p. ended (lines_of p.trace.items) ≡ p.trace.items) }
 {
     source.facts();
     let parts = source.parts();
     let identity = Placement::identity(alloc, source.wires())?;
     let own = qubits_of(alloc, &identity)?;
     let mut made = Vec::with_capacity(alloc, parts.len())?;
+    let mut trace = Vec::new(alloc);
     'parts: for part in parts {
-        made.push(placed_part(alloc, part, &own)?)?;
+        let placed = placed_part(alloc, traces, part, &own, traced)?;
+        made.push(placed.made)?;
+        trace = placed.trace;
     }
-    Ok(made)
+    Ok(PlacedParts { made, trace })
 }
 
-/// The circuit on its own wires.
-pub fn in_place(alloc: Global, source: &PartedProgram, keep: bool) -> Result<Target, AllocError>
-    ensures stands { IfOk result (Stands source.now keep false (IsInPlace source.now)) }
+/// The circuit on its own wires, with its trace where `traced` asks for one. Fails for want of memory alone.
+pub fn in_place<T: RunTraces>(
+    alloc: Global,
+    traces: &T,
+    source: &PartedProgram,
+    keep: bool,
+    traced: bool,
+) -> Result<Target, AllocError>
+    requires traced { traced ≡ true → source.now.cut ≡ uncut source.now.ops }
+    ensures stands { IfOk result (Stands source.now keep traced (IsInPlace source.now)) }
     ensures fit { IfOk result (IsFit source.now) }
 {
     source.facts();
     let wires = source.wires();
     let last = Placement::identity(alloc, wires)?;
     let initial = last.copy()?;
-    let made = placed_parts(alloc, source)?;
+    let PlacedParts { made, trace } = placed_parts(alloc, traces, source, traced)?;
     let swaps = 0;
     Ok(Target {
         lengths: lengths_of(alloc, &made)?,
@@ -168,7 +234,7 @@ pub fn in_place(alloc: Global, source: &PartedProgram, keep: bool) -> Result<Tar
         cost: None,
         parts: told_parts(alloc, source, &made, keep)?,
         spares: None,
-        trace: Vec::new(alloc),
+        trace,
         body: body_of(alloc, wires, made)?,
     })
 }

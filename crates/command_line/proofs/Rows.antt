@@ -2,6 +2,7 @@
 --   of_opt, of_opt_dashes            `opt`, and `opt` with `--` behind it
 --   of_opt_kept, ..                  `opt` with `--keep-barriers`
 --   of_opt_spares, ..                `opt` with `--spares`
+--   of_opt_trace, ..                 `opt` with `--trace`
 --   of_check, of_check_dashes        `check`, and `check` with `--` behind it
 --   of_stages, of_stages_dashes      `stages`, and `stages` with `--` behind it
 --   of_stages_spares                 `stages` with `--spares`
@@ -23,11 +24,11 @@ use Rattle.command_line.specs.Commands.{command_of}
 use Rattle.command_line.specs.declared.commands.Begin.TheVariants.{Trivial, Listed, Tries}
 use Rattle.command_line.specs.declared.commands.Command.TheVariants.{Opt, OptWithSpares, Route, Check, Stages, Bench, Amplitude, Verify}
 
-pub of_opt : (name : List ℕ) → command_of (name ∷ codes "opt" ∷ []) ≡ Some (Opt false)
+pub of_opt : (name : List ℕ) → command_of (name ∷ codes "opt" ∷ []) ≡ Some (Opt false false)
 unfolding clap_on_literals
 of_opt name = refl
 
-pub of_opt_dashes : (name : List ℕ) → command_of (name ∷ codes "opt" ∷ codes "--" ∷ []) ≡ Some (Opt false)
+pub of_opt_dashes : (name : List ℕ) → command_of (name ∷ codes "opt" ∷ codes "--" ∷ []) ≡ Some (Opt false false)
 unfolding clap_on_literals
 of_opt_dashes name = refl
 
@@ -399,9 +400,45 @@ pub no_trace_of_check : (name : List ℕ) → command_of (name ∷ codes "check"
 unfolding clap_on_literals
 no_trace_of_check name = refl
 
-pub no_trace_of_opt : (name : List ℕ) → command_of (name ∷ codes "opt" ∷ codes "--trace" ∷ []) ≡ None
+pub of_opt_trace : (name : List ℕ) → command_of (name ∷ codes "opt" ∷ codes "--trace" ∷ []) ≡ Some (Opt true false)
 unfolding clap_on_literals
-no_trace_of_opt name = refl
+of_opt_trace name = refl
+
+pub of_opt_trace_dashes : (name : List ℕ) → command_of (name ∷ codes "opt" ∷ codes "--trace" ∷ codes "--" ∷ []) ≡ Some (Opt true false)
+unfolding clap_on_literals
+of_opt_trace_dashes name = refl
+
+pub no_second_trace_of_opt : (name : List ℕ) → command_of (name ∷ codes "opt" ∷ codes "--trace" ∷ codes "--trace" ∷ []) ≡ None
+unfolding clap_on_literals
+no_second_trace_of_opt name = refl
+
+pub no_value_of_trace_of_opt : (name : List ℕ) → command_of (name ∷ codes "opt" ∷ codes "--trace=1" ∷ []) ≡ None
+unfolding clap_on_literals
+no_value_of_trace_of_opt name = refl
+
+pub no_abbreviated_trace_of_opt : (name : List ℕ) → command_of (name ∷ codes "opt" ∷ codes "--tra" ∷ []) ≡ None
+unfolding clap_on_literals
+no_abbreviated_trace_of_opt name = refl
+
+pub no_trace_of_opt_beside_kept : (name : List ℕ) → command_of (name ∷ codes "opt" ∷ codes "--trace" ∷ codes "--keep-barriers" ∷ []) ≡ None
+unfolding clap_on_literals
+no_trace_of_opt_beside_kept name = refl
+
+pub no_trace_of_opt_behind_kept : (name : List ℕ) → command_of (name ∷ codes "opt" ∷ codes "--keep-barriers" ∷ codes "--trace" ∷ []) ≡ None
+unfolding clap_on_literals
+no_trace_of_opt_behind_kept name = refl
+
+pub no_trace_beside_spares : (name : List ℕ) → command_of (name ∷ codes "opt" ∷ codes "--trace" ∷ codes "--spares" ∷ codes "4" ∷ []) ≡ None
+unfolding clap_on_literals digits
+no_trace_beside_spares name = refl
+
+pub no_trace_behind_spares : (name : List ℕ) → command_of (name ∷ codes "opt" ∷ codes "--spares=4" ∷ codes "--trace" ∷ []) ≡ None
+unfolding clap_on_literals digits
+no_trace_behind_spares name = refl
+
+pub no_clean_of_opt_beside_trace : (name : List ℕ) → command_of (name ∷ codes "opt" ∷ codes "--trace" ∷ codes "--clean" ∷ []) ≡ None
+unfolding clap_on_literals
+no_clean_of_opt_beside_trace name = refl
 
 pub of_verify : (name : List ℕ) → command_of (name ∷ codes "verify" ∷ codes "--source" ∷ codes "a" ∷ codes "--target" ∷ codes "b" ∷ []) ≡ Some (Verify (record { source = codes "a"; target = codes "b"; trace = None; device = None; placements = false; in_place = false; reads = false }))
 unfolding clap_on_literals
@@ -527,11 +564,11 @@ pub no_trivial_of_verify : (name : List ℕ) → command_of (name ∷ codes "ver
 unfolding clap_on_literals
 no_trivial_of_verify name = refl
 
-pub of_opt_kept : (name : List ℕ) → command_of (name ∷ codes "opt" ∷ codes "--keep-barriers" ∷ []) ≡ Some (Opt true)
+pub of_opt_kept : (name : List ℕ) → command_of (name ∷ codes "opt" ∷ codes "--keep-barriers" ∷ []) ≡ Some (Opt false true)
 unfolding clap_on_literals
 of_opt_kept name = refl
 
-pub of_opt_kept_dashes : (name : List ℕ) → command_of (name ∷ codes "opt" ∷ codes "--keep-barriers" ∷ codes "--" ∷ []) ≡ Some (Opt true)
+pub of_opt_kept_dashes : (name : List ℕ) → command_of (name ∷ codes "opt" ∷ codes "--keep-barriers" ∷ codes "--" ∷ []) ≡ Some (Opt false true)
 unfolding clap_on_literals
 of_opt_kept_dashes name = refl
 

@@ -3,7 +3,7 @@
 --   needed_option id    `--ID VALUE`, which has to be there, once
 --   optional id         `--ID VALUE`, at most once
 --   flag id             `--ID`, at most once
---   opt_command         the subcommand `opt`, which takes `--keep-barriers` and `--spares`
+--   opt_command         the subcommand `opt`, which takes `--keep-barriers`, `--spares` and `--trace`
 --   check_command       the subcommand `check`, which takes no argument
 --   stages_command      the subcommand `stages`, which takes `--spares`
 --   traced_command      the subcommand `route` with `--device`, `--trivial` and `--trace`
@@ -24,7 +24,7 @@
 --   is_traced rows      whether `--trace` was matched
 --   is_kept rows        whether `--keep-barriers` was matched
 --   is_cleaned rows     whether `--clean` was matched
---   clashes_with_trace rows   `--trace` was matched, and one of the two flags that have no trace
+--   clashes_with_trace rows   `--trace` of `route` was matched, and one of the two flags that have no trace
 --   has_initial rows    whether a text was matched behind `--initial`
 --   has_tries rows      whether a text was matched behind `--tries`
 --   begins_twice rows   two of `--trivial`, `--initial` and `--tries` were matched
@@ -58,8 +58,8 @@
 --   subcommand_meaning name rows  what the subcommand of this name asks for, with what it matched
 --   command_of words    the command that the words mean, the program's name first; none where they mean none
 --   IsBeginAllowed b    a list has different qubits, and there are 1 to 256 tries
---   IsAllowed c         `bench` has 1 to 20000 gates, `route` no trace beside kept barriers or cleaning and begins as it may, and
---                       there are 1 to 255 spare wires where there are any
+--   IsAllowed c         `bench` has 1 to 20000 gates, `opt` and `route` no trace beside kept barriers and `route` none beside cleaning,
+--                       `route` begins as it may, and there are 1 to 255 spare wires where there are any
 use Rattle.std.specs.Prelude.{◌≡◌, ℕ, List, ◌==◌, ◌≤◌, ◌&&◌, ◌||◌, Bool, true, false, Option, Some, None, IfSome, if◌then◌else◌, [], ◌∷◌, codes, decimal, is_some, length, map, nat_eq, nat_le, not, option_map, option_and_then}
 use Rattle.std.specs.Option.{option_map_or}
 use Rattle.std.specs.List.{IsDistinct, list_all, list_any, slice_split}
@@ -104,7 +104,8 @@ optional id = record (new_rule id) {
 }
 
 abbrev pub opt_command : App
-opt_command = with_rule (with_rule (new_app (codes "opt")) (flag (codes "keep-barriers"))) (optional (codes "spares"))
+opt_command = with_rule (with_rule (with_rule (new_app (codes "opt")) (flag (codes "keep-barriers"))) (optional (codes "spares")))
+    (flag (codes "trace"))
 
 abbrev pub stages_command : App
 stages_command = with_rule (new_app (codes "stages")) (optional (codes "spares"))
@@ -235,10 +236,10 @@ has_spares rows = is_some (first_of (codes "spares") rows)
 abbrev pub spares_of : List Row → Option ℕ
 spares_of rows = option_and_then (number_of 1 255) (first_of (codes "spares") rows)
 
--- a program's barriers aren't kept beside spare wires
+-- beside spare wires neither a program's barriers are kept, nor is there a trace; and a trace is of the whole program
 abbrev pub opt_of : List Row → Option Command
-opt_of rows = if has_spares rows then (if is_kept rows then None else option_map OptWithSpares (spares_of rows))
-    else Some (Opt (is_kept rows))
+opt_of rows = if has_spares rows then (if is_traced rows || is_kept rows then None else option_map OptWithSpares (spares_of rows))
+    else (if is_traced rows && is_kept rows then None else Some (Opt (is_traced rows) (is_kept rows)))
 
 abbrev pub stages_of : List Row → Option Command
 stages_of rows = if has_spares rows then option_map (λ m. Stages (Some m)) (spares_of rows) else Some (Stages None)
@@ -307,7 +308,7 @@ IsBeginAllowed (Listed list) = IsDistinct nat_eq list
 IsBeginAllowed (Tries k) = (1 ≤ k) × (k ≤ 256)
 
 abbrev pub IsAllowed : Command → Type 0
-IsAllowed (Opt kept) = Unit {0}
+IsAllowed (Opt trace kept) = trace ≡ true → kept ≡ false
 IsAllowed (OptWithSpares m) = (1 ≤ m) × (m ≤ 255)
 IsAllowed (Route device begin trace kept clean) = (trace ≡ true → (kept ≡ false) × (clean ≡ false)) × IsBeginAllowed begin
 IsAllowed Check = Unit {0}

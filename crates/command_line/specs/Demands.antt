@@ -18,7 +18,7 @@ use Rattle.command_line.specs.declared.commands.Command.TheVariants.{Opt, OptWit
 use Rattle.command_line.specs.declared.commands.Verifying.{Verifying}
 
 abbrev pub reads_input : Command → Bool
-reads_input (Opt kept) = true
+reads_input (Opt trace kept) = true
 reads_input (OptWithSpares m) = true
 reads_input (Route name begin trace kept clean) = true
 reads_input Check = true
@@ -28,7 +28,7 @@ reads_input (Amplitude from to) = true
 reads_input (Verify v) = false
 
 abbrev pub device_name : Command → Option (List ℕ)
-device_name (Opt kept) = None
+device_name (Opt trace kept) = None
 device_name (OptWithSpares m) = None
 device_name (Route name begin trace kept clean) = Some name
 device_name Check = None
@@ -43,7 +43,7 @@ told_list (Listed qubits) = Some qubits
 told_list (Tries k) = None
 
 abbrev pub initial_list : Command → Option (List ℕ)
-initial_list (Opt kept) = None
+initial_list (Opt trace kept) = None
 initial_list (OptWithSpares m) = None
 initial_list (Route name begin trace kept clean) = told_list begin
 initial_list Check = None
@@ -53,7 +53,7 @@ initial_list (Amplitude from to) = None
 initial_list (Verify v) = None
 
 abbrev pub writes_out : Command → Bool
-writes_out (Opt kept) = true
+writes_out (Opt trace kept) = true
 writes_out (OptWithSpares m) = true
 writes_out (Route name begin trace kept clean) = true
 writes_out Check = false
@@ -63,7 +63,7 @@ writes_out (Amplitude from to) = true
 writes_out (Verify v) = true
 
 abbrev pub writes_report : Command → Bool
-writes_report (Opt kept) = true
+writes_report (Opt trace kept) = true
 writes_report (OptWithSpares m) = true
 writes_report (Route name begin trace kept clean) = true
 writes_report Check = true
@@ -73,7 +73,7 @@ writes_report (Amplitude from to) = false
 writes_report (Verify v) = false
 
 abbrev pub keeps_barriers : Command → Bool
-keeps_barriers (Opt kept) = kept
+keeps_barriers (Opt trace kept) = kept
 keeps_barriers (OptWithSpares m) = false
 keeps_barriers (Route name begin trace kept clean) = kept
 keeps_barriers Check = false
@@ -87,7 +87,7 @@ pub data Question : Type 0 where
   Spares : ℕ → Question
 
 abbrev pub question_of : Command → Option Question
-question_of (Opt kept) = None
+question_of (Opt trace kept) = None
 question_of (OptWithSpares m) = Some (Spares m)
 question_of (Route name begin trace kept clean) = None
 question_of Check = None
@@ -97,7 +97,7 @@ question_of (Amplitude from to) = Some (Entry from to)
 question_of (Verify v) = None
 
 abbrev pub asked_claim : Command → Option Verifying
-asked_claim (Opt kept) = None
+asked_claim (Opt trace kept) = None
 asked_claim (OptWithSpares m) = None
 asked_claim (Route name begin trace kept clean) = None
 asked_claim Check = None

@@ -41,6 +41,8 @@ pub struct Verifying {
 pub enum Command {
     /// Reads a program and writes an equivalent one.
     Opt {
+        /// Whether the trace that shows it is written behind it.
+        trace: bool,
         /// Whether the program's barriers are kept.
         keep_barriers: bool,
     },

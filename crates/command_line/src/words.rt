@@ -5,7 +5,7 @@
 //! leading zero, and in the range of its option; bits are the digits 0 and 1, as many as there are; a list of qubits is numbers
 //! up to 255 with commas between them, none of them twice. The wires of `route` begin in one way, so of `--trivial`, `--initial`
 //! and `--tries` at most one is given. A trace is asked for
-//! neither beside kept barriers nor beside cleaning, and spare wires of `opt` not beside kept barriers. The contract of
+//! neither beside kept barriers nor beside cleaning, and spare wires of `opt` beside neither a trace nor kept barriers. The contract of
 //! `command` says that the answer is the command of the words by `clap`'s own definitions, and that words are refused
 //! exactly where they mean none.
 
@@ -76,14 +76,15 @@ fn stages_command<'a>(alloc: Global) -> Result<Command<'a>, AllocError>
     Command::new(alloc, "stages").arg(optional(alloc, "spares"))
 }
 
-/// `opt`, which takes a flag, and a number where one is given.
+/// `opt`, which takes two flags, and a number where one is given.
 fn opt_command<'a>(alloc: Global) -> Result<Command<'a>, AllocError>
     ensures command { IfOk result (λ c. app_of c ≡ opt_command) }
     ensures local { IfOk result (λ c. (fields_of c).has_globals ≡ false) }
 {
     Command::new(alloc, "opt")
         .arg(flag(alloc, "keep-barriers"))?
-        .arg(optional(alloc, "spares"))
+        .arg(optional(alloc, "spares"))?
+        .arg(flag(alloc, "trace"))
 }
 
 /// `route` with a device and two flags.
@@ -391,13 +392,18 @@ fn opt_of(matches: &ArgMatches<'_>) -> Result<commands::Command, WordsFault>
     ensures bad { IsErrOf result WordsFault.BadWords → opt_of (rows_of (found_of matches.now)) ≡ None }
     ensures allowed { IfOk result IsAllowed }
 {
+    let trace = is_given(matches, "trace");
     let kept = is_given(matches, "keep-barriers");
     if !has_spares(matches) {
+        if trace && kept {
+            return Err(WordsFault::BadWords);
+        }
         return Ok(commands::Command::Opt {
+            trace,
             keep_barriers: kept,
         });
     }
-    if kept {
+    if trace || kept {
         return Err(WordsFault::BadWords);
     }
     let Some(spares) = number_behind(matches, "spares", 1, 255) else {

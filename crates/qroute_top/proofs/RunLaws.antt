@@ -226,10 +226,11 @@ delivers words content c old new p text line asked had answered answer = record 
   answer = answer;
 }
 
-pub Delivers-opt : (words : List (List ℕ)) (content : Content) (c : Command) (keep : Bool) (old new : Option (List ℕ)) (p : Program) (text line : List ℕ)
-    → command_of words ≡ Some c → c ≡ Opt keep → HasRead keep old new p → Rewrites p keep false (IsInPlace p) text line → Delivers words content old new text line
-Delivers-opt words content c keep old new p text line asked is read made =
-    delivers words content (Opt keep) old new p text line (asked ∙ ap (λ x. Some x) is) read (λ r u. u) made
+pub Delivers-opt : (words : List (List ℕ)) (content : Content) (c : Command) (traced keep : Bool) (old new : Option (List ℕ)) (p : Program) (text line : List ℕ)
+    → command_of words ≡ Some c → c ≡ Opt traced keep → HasRead keep old new p → Rewrites p keep traced (IsInPlace p) text line
+    → Delivers words content old new text line
+Delivers-opt words content c traced keep old new p text line asked is read made =
+    delivers words content (Opt traced keep) old new p text line (asked ∙ ap (λ x. Some x) is) read (λ r u. u) made
 
 pub Delivers-check : (words : List (List ℕ)) (content : Content) (c : Command) (old new : Option (List ℕ)) (p : Program) (text line : List ℕ)
     → command_of words ≡ Some c → c ≡ Check → HasRead false old new p → text ≡ [] → line ≡ check_line (counts_of p) → Delivers words content old new text line
@@ -349,7 +350,7 @@ some_claim v w e = cc
 
 -- only `verify` claims something
 claims : (c : Command) (v : Verifying) → asked_claim c ≡ Some v → c ≡ Verify v
-claims (Opt keep) v e = cc
+claims (Opt traced keep) v e = cc
 claims (OptWithSpares m) v e = cc
 claims (Route name begin traced keep clean) v e = cc
 claims Check v e = cc
@@ -507,7 +508,7 @@ had_wires once old new false keep n p reads none had = cc
 
 -- a list that is given is one for a program that is read
 fits_needed : (c : Command) (n wires size : ℕ) → (reads_input c ≡ true → wires ≡ n) → Fits (initial_list c) wires size → Fits (initial_list c) n size
-fits_needed (Opt keep) n wires size same fits = tt
+fits_needed (Opt traced keep) n wires size same fits = tt
 fits_needed (OptWithSpares m) n wires size same fits = tt
 fits_needed (Route name begin traced keep clean) n wires size same fits = subst (λ (k : ℕ). Fits (told_list begin) k size) (same refl) fits
 fits_needed Check n wires size same fits = tt
@@ -533,7 +534,7 @@ same_device name other o e f = cc
 
 -- a command that loads a device asks no question
 unasked : (c : Command) (name : List ℕ) (p : Program) (r : QuestionRefusal) → device_name c ≡ Some name → IsQuestionRefusal (question_of c) p r → ⊥
-unasked (Opt keep) name p r wants u = u
+unasked (Opt traced keep) name p r wants u = u
 unasked (OptWithSpares m) name p r wants u = cc
 unasked (Route other begin traced keep clean) name p r wants u = u
 unasked Check name p r wants u = u
@@ -544,7 +545,7 @@ unasked (Verify v) name p r wants u = u
 
 -- a command that asks a question reads a program
 asking_reads : (c : Command) (p : Program) (r : QuestionRefusal) → IsQuestionRefusal (question_of c) p r → reads_input c ≡ true
-asking_reads (Opt keep) p r u = absurd u
+asking_reads (Opt traced keep) p r u = absurd u
 asking_reads (OptWithSpares m) p r u = refl
 asking_reads (Route other begin traced keep clean) p r u = absurd u
 asking_reads Check p r u = absurd u
@@ -839,7 +840,7 @@ record IsClaimedOn (content : Content) (name : List ℕ) (c : Command) : Type 0 
 
 answer_on : (content : Content) (name : List ℕ) (c : Command) (source : Program) (x l : List ℕ) → device_name c ≡ Some name → IsAnswer content c source x l
     → IsFromDevice content name (initial_list c) source x l ⊎ IsClaimedOn content name c
-answer_on content name (Opt keep) source x l wants answer = cc
+answer_on content name (Opt traced keep) source x l wants answer = cc
 answer_on content name (OptWithSpares m) source x l wants answer = cc
 answer_on content name (Route other begin traced keep clean) source x l wants answer =
     let same : other ≡ name = cc in inl (record {

@@ -134,7 +134,7 @@ drawn_program start gates n = record {
 }
 
 abbrev pub IsAnswer : Content → Command → Program → List ℕ → List ℕ → Type 0
-IsAnswer content (Opt keep) source text line = Rewrites source keep false (IsInPlace source) text line
+IsAnswer content (Opt traced keep) source text line = Rewrites source keep traced (IsInPlace source) text line
 IsAnswer content (OptWithSpares m) source text line = WritesWithSpares source m text line
 IsAnswer content (Route name begin traced keep clean) source text line =
     Rewrites source keep traced (IsOnDevice content name begin clean source) text line

@@ -68,9 +68,12 @@ pub fn decide<I: Input, F: Shelf>(
 {
     let command = asked(alloc, words)?;
     match command {
-        Command::Opt { keep_barriers } => {
+        Command::Opt {
+            trace,
+            keep_barriers,
+        } => {
             let source = read_source(alloc, input, keep_barriers)?;
-            Ok(optimise(alloc, source, keep_barriers)?)
+            Ok(optimise(alloc, source, keep_barriers, trace)?)
         }
         Command::OptWithSpares { spares } => {
             let source = read_source(alloc, input, false)?;

@@ -10,8 +10,8 @@
 //! A text that is refused is told with its place or statement, a device with its reason, and nothing is written then. `check`
 //! tells of a program without writing one, `stages` writes a line for each layer of its gates, and `amplitude` writes one entry of
 //! its unitary. `bench` reads none: it routes one that it draws for the device, gate by gate. With `--trace` the program that is
-//! written on a device carries a trace, which proves that it is the source; `verify` tells whether the trace in one text proves
-//! that it is another, whoever wrote them.
+//! written, on its own wires or on a device, carries a trace, which proves that it is the source; `verify` tells whether the trace
+//! in one text proves that it is another, whoever wrote them.
 //!
 //! `source` reads the input, over all of the readers, or draws a program; `device` loads the device of a name; `pipeline` has the
 //! circuit made that is to be written and its trace, by `circuit_target`, and `spared` makes the one with spare wires; `question`

@@ -20,7 +20,7 @@ use circuit_target::{PartedProgram, RouteOptions, RunTraces, in_place, routed};
 use coupling_map::Device;
 use program_reader::SourceProgram;
 use rewrite_pass::Trace;
-use route_trace::route_trace;
+use route_trace::{route_trace, trace_in_place};
 use sabre_route::{Event, Routed};
 use std::alloc::{AllocError, Global};
 use wire_starts::Starts;
@@ -40,10 +40,10 @@ fn parted(source: &SourceProgram) -> PartedProgram<'_>
     )
 }
 
-/// The traces of routed programs, as `route_trace` writes them.
-struct RoutedTraces;
+/// The traces of programs that are written, as the crate `route_trace` writes them.
+struct WrittenTraces;
 
-impl RunTraces for RoutedTraces {
+impl RunTraces for WrittenTraces {
     fn trace(
         &self,
         alloc: Global,
@@ -57,18 +57,34 @@ impl RunTraces for RoutedTraces {
     ) -> Result<Vec<u8>, AllocError> {
         route_trace(alloc, steps, body, device, given, events, routed, turn)
     }
+
+    fn trace_in_place(
+        &self,
+        alloc: Global,
+        steps: &Trace,
+        body: &Circuit,
+        turn: u8,
+    ) -> Result<Vec<u8>, AllocError> {
+        trace_in_place(alloc, steps, body, turn)
+    }
 }
 
 /// Makes what is to be written for a source on its own wires. The report tells of its parts where `keep` says that its barriers
-/// are kept.
+/// are kept; the program carries a trace where `traced` asks for one.
 #[tactic(auto, using(crate::proofs::PlanLaws::plans))]
-pub fn optimise(alloc: Global, source: SourceProgram, keep: bool) -> Result<Answer, AllocError>
-    ensures made { IfOk result (λ w. (text line : List ℕ) → IsAnswerOf w text line → Rewrites source keep false (IsInPlace source) text line) }
+pub fn optimise(
+    alloc: Global,
+    source: SourceProgram,
+    keep: bool,
+    traced: bool,
+) -> Result<Answer, AllocError>
+    requires traced { traced ≡ true → source.cut ≡ uncut source.ops }
+    ensures made { IfOk result (λ w. (text line : List ℕ) → IsAnswerOf w text line → Rewrites source keep traced (IsInPlace source) text line) }
     ensures writes { IfOk result (λ w. has_text w ≡ true) }
     ensures tells { IfOk result (λ w. has_line w ≡ true) }
     ensures fit { IfOk result IsFitAnswer }
 {
-    let target = in_place(alloc, &parted(&source), keep)?;
+    let target = in_place(alloc, &WrittenTraces, &parted(&source), keep, traced)?;
     Ok(answer_of(source, target))
 }
 
@@ -116,7 +132,7 @@ pub fn route_on(
 {
     let target = routed(
         alloc,
-        &RoutedTraces,
+        &WrittenTraces,
         &parted(&source),
         device,
         starts,

@@ -2,6 +2,7 @@
 --     Near d              near qubits are different qubits of the device
 --     free-first          a gate of whose wires no gate before it is, is first
 --     at p q gs w t       the state where the wires began at p and stand at q, the gates gs are left, and w was appended, with the turn t
+--     same-turn, one-emit a gate that is emitted as it stands takes no turn
 --     emit-run, swap-run  a gate that is emitted, a swap
 --     events-run          a run of the router
 --     run-there           the places and qubits of its events are there
@@ -66,10 +67,10 @@ free-first gs j g e h =
 abbrev pub at : List ℕ → List ℕ → List Gate → List Gate → ℕ → ProofState
 at p q gs w t = Routed (record { first = p; now = q; rest = gs; written = w; turn = t })
 
-same-turn : (t : ℕ) → t < 8 → (t + 0) % 8 ≡ t
+pub same-turn : (t : ℕ) → t < 8 → (t + 0) % 8 ≡ t
 same-turn t lt = omega arith
 
-one-emit : (e : Claim) (p q : List ℕ) (gs w : List Gate) (t j : ℕ) (g : Gate) (ls : List Line) (behind : List (List ℕ)) (u : ProofState) → t < 8 → j < 2 ^ 32 → IsFirst gs j g →
+pub one-emit : (e : Claim) (p q : List ℕ) (gs w : List Gate) (t j : ℕ) (g : Gate) (ls : List Line) (behind : List (List ℕ)) (u : ProofState) → t < 8 → j < 2 ^ 32 → IsFirst gs j g →
     Runs e 1 (at p q (remove gs j) (w ++ on_qubits q g ∷ []) ((t + 0) % 8)) ls behind u → Runs e 1 (at p q gs w t) (Emit j ∷ ls) behind u
 one-emit e p q gs w t j g ls behind u lt small first r = (
   at p q (remove gs j) (w ++ on_qubits q g ∷ []) ((t + 0) % 8),

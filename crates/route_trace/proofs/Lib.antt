@@ -3,3 +3,4 @@ pub mod GateLaws
 pub mod StepRuns
 pub mod EventRuns
 pub mod TraceLaws
+pub mod InPlaceLaws

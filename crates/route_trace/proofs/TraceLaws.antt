@@ -1,8 +1,11 @@
 -- The trace of a routed program.
 --     line w ks           the bytes of a line of the word w and the numbers ks
+--     head-made           the bytes of its first lines, as the code writes them
 --     text-made           its bytes, as the code writes them
+--     entries-small       the numbers of a placement are small
 --     end-run             its last line
 --     trace-runs          its lines lead from nothing to all that is claimed
+--     lines-prove         lines that lead from nothing to all that is claimed prove it
 --     trace-proves        it proves the claim
 use Rattle.std.proofs.Common.{◌≡◌, ℕ, suc, ◌+◌, ◌-◌, ◌%◌, ◌^◌, ◌<◌, ◌≤◌, inl, List, [], ◌∷◌, ◌++◌, All, length, map, refl, sym, ◌∙◌, ap, subst, arith, append_assoc, append-nil, slice_index}
 use Rattle.std.specs.Prelude.{codes}
@@ -26,7 +29,7 @@ use Rattle.trace_model.proofs.EditionLaws.{edition-first}
 use Rattle.trace_model.specs.Proves.{Claim, Proved, Proves, Rewritten, Runs, ProofState, Unread}
 use Rattle.trace_text.specs.Texts.{ended, lines_of}
 use Rattle.unitary_model.specs.Placement.{IsPlacement}
-use Rattle.route_trace.specs.EventLines.{event_lines, trace_lines}
+use Rattle.route_trace.specs.EventLines.{event_lines, head_lines, trace_lines}
 use Rattle.route_trace.proofs.EventRuns.{Near, at, events-run}
 use Rattle.route_trace.proofs.GateLaws.{expanded-ops, length-expanded, turn-ops}
 use Rattle.route_trace.proofs.StepRuns.{steps-run}
@@ -56,17 +59,33 @@ bytes-of ss p ls j =
     ∙ (λ i. head ++ (ended (steps-spelt ss i) ++ (place ++ joined ls (End j ∷ []) i)))
     ∙ ap (λ r. head ++ (steps_text ss ++ (place ++ (ended (all_spelt ls) ++ r)))) (append-nil last)
 
-grouped : (a b c d e : List ℕ) → (((a ++ b) ++ c) ++ d) ++ e ≡ a ++ (b ++ (c ++ (d ++ e)))
-grouped a b c d e = append_assoc ((a ++ b) ++ c) d e ∙ append_assoc (a ++ b) c (d ++ e) ∙ append_assoc a b (c ++ (d ++ e))
+bytes-of_head : (ss : List Step) (p : List ℕ) → ended (all_spelt (head_lines ss p)) ≡ line (codes "TRACE") (1 ∷ []) ++ (steps_text ss ++ line (codes "place") p)
+bytes-of_head ss p =
+    let head = line (codes "TRACE") (1 ∷ []) in
+    let place = line (codes "place") p in
+    ap (λ r. head ++ r) (joined (map (λ s. Rewrite s) ss) (Place p ∷ []))
+    ∙ (λ i. head ++ (ended (steps-spelt ss i) ++ append-nil place i))
 
-pub text-made : (ss : List Step) (p : List ℕ) (ls : List Line) (j : ℕ) (a b c d e : List ℕ) → a ≡ line (codes "TRACE") (1 ∷ []) → b ≡ a ++ steps_text ss → c ≡ b ++ line (codes "place") p → d ≡ c ++ ended (all_spelt ls) → e ≡ d ++ line (codes "end") (j ∷ []) →
+behind : (x a b c : List ℕ) → ((x ++ a) ++ b) ++ c ≡ x ++ (a ++ (b ++ c))
+behind x a b c = append_assoc (x ++ a) b c ∙ append_assoc x a (b ++ c)
+
+pub head-made : (ss : List Step) (p : List ℕ) (old a b c : List ℕ) → a ≡ old ++ line (codes "TRACE") (1 ∷ []) → b ≡ a ++ steps_text ss → c ≡ b ++ line (codes "place") p →
+    c ≡ old ++ ended (all_spelt (head_lines ss p))
+head-made ss p old a b c ha hb hc =
+    hc ∙ ap (λ x. x ++ line (codes "place") p) (hb ∙ ap (λ x. x ++ steps_text ss) ha)
+    ∙ behind old (line (codes "TRACE") (1 ∷ [])) (steps_text ss) (line (codes "place") p) ∙ ap (λ x. old ++ x) (sym (bytes-of_head ss p))
+
+grouped : (a b c d e : List ℕ) → ((a ++ (b ++ c)) ++ d) ++ e ≡ a ++ (b ++ (c ++ (d ++ e)))
+grouped a b c d e = append_assoc (a ++ (b ++ c)) d e ∙ append_assoc a (b ++ c) (d ++ e) ∙ ap (λ x. a ++ x) (append_assoc b c (d ++ e))
+
+pub text-made : (ss : List Step) (p : List ℕ) (ls : List Line) (j : ℕ) (c d e : List ℕ) → c ≡ ended (all_spelt (head_lines ss p)) → d ≡ c ++ ended (all_spelt ls) → e ≡ d ++ line (codes "end") (j ∷ []) →
     e ≡ ended (all_spelt (trace_lines ss p ls j))
-text-made ss p ls j a b c d e ha hb hc hd he =
+text-made ss p ls j c d e hc hd he =
     let last = line (codes "end") (j ∷ []) in
-    he ∙ ap (λ x. x ++ last) (hd ∙ ap (λ x. x ++ ended (all_spelt ls)) (hc ∙ ap (λ x. x ++ line (codes "place") p) (hb ∙ ap (λ x. x ++ steps_text ss) ha)))
+    he ∙ ap (λ x. x ++ last) (hd ∙ ap (λ x. x ++ ended (all_spelt ls)) (hc ∙ bytes-of_head ss p))
     ∙ grouped (line (codes "TRACE") (1 ∷ [])) (steps_text ss) (line (codes "place") p) (ended (all_spelt ls)) last ∙ sym (bytes-of ss p ls j)
 
-steps-within : (ss : List Step) (p : List ℕ) (ls : List Line) (j : ℕ) → length (steps_text ss) ≤ length (ended (all_spelt (trace_lines ss p ls j)))
+pub steps-within : (ss : List Step) (p : List ℕ) (ls : List Line) (j : ℕ) → length (steps_text ss) ≤ length (ended (all_spelt (trace_lines ss p ls j)))
 steps-within ss p ls j =
     let head = line (codes "TRACE") (1 ∷ []) in
     let rest = line (codes "place") p ++ (ended (all_spelt ls) ++ line (codes "end") (j ∷ [])) in
@@ -77,7 +96,7 @@ runs-small : (e : Claim) (s : ProofState) (ls : List Line) (behind : List (List 
 runs-small e s [] behind u h = tt
 runs-small e s (l ∷ ls) behind u h = (h.1.0.0, runs-small e h.0 ls behind u h.1.1.1)
 
-entries-small : (p : List ℕ) → ((i : ℕ) → i < length p → slice_index p i < 2 ^ 32) → AllByRecursion (λ k. k < 2 ^ 32) p
+pub entries-small : (p : List ℕ) → ((i : ℕ) → i < length p → slice_index p i < 2 ^ 32) → AllByRecursion (λ k. k < 2 ^ 32) p
 entries-small [] h = tt
 entries-small (k ∷ p) h = (h 0 (omega arith), entries-small p (λ i lt. h (suc i) (omega (arith, lt))))
 
@@ -88,7 +107,7 @@ last-turn t s lt e = omega arith
 whole-turn : (f t r c j : ℕ) → c ≡ r % 8 → j ≡ (f + (t + c)) % 8 → ((f + t) % 8 + r) % 8 ≡ j
 whole-turn f t r c j e h = omega arith
 
-end-run : (e : Claim) (p q w : List ℕ) (gs v target : List Gate) (m t j : ℕ) → AllByRecursion (IsFine m) target → gs ≡ [] → v ≡ target → e.target ≡ ops target → t ≡ j → j < 8 → q ≡ w →
+pub end-run : (e : Claim) (p q w : List ℕ) (gs v target : List Gate) (m t j : ℕ) → AllByRecursion (IsFine m) target → gs ≡ [] → v ≡ target → e.target ≡ ops target → t ≡ j → j < 8 → q ≡ w →
     Runs e 1 (at p q gs v t) (End j ∷ []) [] (Proved p w j)
 end-run e p q w gs v target m t j fine none all goal same lt ends =
     let zero : turn_of e.target ≡ 0 = ap turn_of goal ∙ turn-ops target in (
@@ -109,7 +128,7 @@ end-run e p q w gs v target m t j fine none all goal same lt ends =
     )
 
 -- ---- the trace
-below : (k : ℕ) → k % 8 < 8
+pub below : (k : ℕ) → k % 8 < 8
 below k = omega arith
 
 trace-runs : (ahead : Ahead) (d : Coupling) (ss : List Step) (n m B : ℕ) (gs : List Gate) (given : List ℕ) (r : Router) (xs : List Told) (turn : ℕ) → Near d → d.size ≤ 2 ^ 32 → n ≤ d.size → IsPlacement d.size given → AllByRecursion (IsFine m) r.body.gates →
@@ -148,14 +167,20 @@ trace-runs ahead d ss n m B gs given r xs turn near le fits placed fine h lt few
       ),
     )
 
+pub lines-prove : (e : Claim) (ss : List Step) (p q : List ℕ) (ls : List Line) (j : ℕ) (text : List ℕ) → text ≡ ended (all_spelt (trace_lines ss p ls j)) →
+    Runs e 1 Unread (trace_lines ss p ls j) [] (Proved p q j) → Proves e text p q j
+lines-prove e ss p q ls j text same run =
+    let all : List Line = trace_lines ss p ls j in
+    let lines : lines_of text ≡ all_spelt all = ap lines_of same ∙ lines-ended (all_spelt all) (spelt-plain all (runs-small e Unread all [] (Proved p q j) run)) in
+    let rest : List Line = map (λ s. Rewrite s) ss ++ (Place p ∷ (ls ++ End j ∷ [])) in
+    let named : edition_of (lines_of text) ≡ 1 = ap edition_of lines ∙ edition-first (all_spelt rest) in
+    record { lines = all; text = lines; run = subst (λ v. Runs e v Unread all [] (Proved p q j)) (sym named) run }
+
 pub trace-proves : (ahead : Ahead) (d : Coupling) (ss : List Step) (n m : ℕ) (gs : List Gate) (given : List ℕ) (r : Router) (xs : List Told) (turn : ℕ) (text : List ℕ) → Near d → d.size ≤ 256 → n ≤ d.size → IsPlacement d.size given → All (IsFine m) r.body.gates →
     IsRoutedBy ahead d gs given r xs → turn < 8 → text ≡ ended (all_spelt (trace_lines ss given (event_lines d.edges given gs xs) turn)) → length text < 2 ^ 31 → (e : Claim) (t : ℕ) → e.wires ≡ n → e.qubits ≡ d.size → length e.source ≤ 65536 →
     All (IsFineOp e.wires) e.source → AreSteps e.wires (expanded e.source) ss gs t → e.target ≡ ops r.body.gates → turn ≡ (turn_of e.source + (t + r.turn)) % 8 → Proves e text given r.last turn
 trace-proves ahead d ss n m gs given r xs turn text near le fits placed fine h lt same short e t wires qubits source ops-fine steps target whole =
-    let ls : List Line = trace_lines ss given (event_lines d.edges given gs xs) turn in
+    let ls : List Line = event_lines d.edges given gs xs in
     let run = trace-runs ahead d ss n m (2 ^ 31) gs given r xs turn near (omega (arith, le)) fits placed (recursion_from_All (IsFine m) r.body.gates fine) h lt
-    (omega (arith, short, ap length same, steps-within ss given (event_lines d.edges given gs xs) turn)) (omega arith) e t wires qubits (omega (arith, source, length-expanded e.source)) steps target whole in
-    let lines : lines_of text ≡ all_spelt ls = ap lines_of same ∙ lines-ended (all_spelt ls) (spelt-plain ls (runs-small e Unread ls [] (Proved given r.last turn) run)) in
-    let rest : List Line = map (λ s. Rewrite s) ss ++ (Place given ∷ (event_lines d.edges given gs xs ++ End turn ∷ [])) in
-    let named : edition_of (lines_of text) ≡ 1 = ap edition_of lines ∙ edition-first (all_spelt rest) in
-    record { lines = ls; text = lines; run = subst (λ v. Runs e v Unread ls [] (Proved given r.last turn)) (sym named) run }
+    (omega (arith, short, ap length same, steps-within ss given ls turn)) (omega arith) e t wires qubits (omega (arith, source, length-expanded e.source)) steps target whole in
+    lines-prove e ss given r.last ls turn text same run

@@ -1,5 +1,5 @@
 -- Working form.
--- The lines of the trace of a routed program.
+-- The lines of the trace of a routed program, or of one that stays on its own wires.
 --     line_of l               the line that the code's is
 --     emitted_line es q o j   the line of the gate o, which stood at place j and is emitted, where the wires stand at q on a device with
 --                             the edges es
@@ -7,8 +7,10 @@
 --     placed_by q x           where the wires stand behind the event x;  left_by gs x: the gates that are left
 --     event_line es q gs x    the line of an event, where the gates gs are left;  event_lines: of one after the other
 --     IsThere n gs x          the place of an event is one of the gates gs, and its qubits are below n;  AreThere: of one after the other
+--     emit_lines n            the lines that emit n gates in their order, each the first of those that are left
+--     head_lines ss p         the first lines of a trace: the heading, those of the steps ss, and the placement p
 --     trace_lines ss p ls j   the lines of a trace: of the steps ss, the placement p, the events' lines ls, and the turn j
-use Rattle.std.specs.Prelude.{ℕ, ◌<◌, List, [], ◌∷◌, ◌++◌, Option, None, Some, if◌then◌else◌, length, map, remove, slice_get, slice_index}
+use Rattle.std.specs.Prelude.{ℕ, zero, suc, ◌<◌, List, [], ◌∷◌, ◌++◌, Option, None, Some, if◌then◌else◌, length, map, remove, slice_get, slice_index}
 use Rattle.circuit_list.specs.declared.Gate.{Gate}
 use Rattle.circuit_list.specs.declared.Gate.TheVariants.{H, X, P, Cx}
 use Rattle.coupling_map.specs.Walks.{is_edge}
@@ -63,6 +65,13 @@ IsThere n gs (ToldSwap a b) = (a < n) × (b < n)
 abbrev pub AreThere : ℕ → List Gate → List Told → Type 0
 AreThere n gs [] = Unit {0}
 AreThere n gs (x ∷ xs) = IsThere n gs x × AreThere n (left_by gs x) xs
+
+abbrev pub emit_lines : ℕ → List Line
+emit_lines zero = []
+emit_lines (suc n) = Emit 0 ∷ emit_lines n
+
+abbrev pub head_lines : List Step → List ℕ → List Line
+head_lines ss p = Heading 1 ∷ map (λ s. Rewrite s) ss ++ Place p ∷ []
 
 abbrev pub trace_lines : List Step → List ℕ → List Line → ℕ → List Line
 trace_lines ss p ls j = Heading 1 ∷ map (λ s. Rewrite s) ss ++ (Place p ∷ (ls ++ End j ∷ []))

@@ -1,4 +1,4 @@
-//! The trace of a routed program: the steps that the passes made, and the events of the router.
+//! The trace of a program that was written: the steps that the passes made, and the events of the router where it was routed.
 //!
 //! In go the steps that led from the gates of a source to a circuit, that circuit, and its run on a
 //! device; out come the bytes of a trace: a heading, a line or more for each step, the placement at
@@ -6,9 +6,12 @@
 //! [`route_trace`] promises that the trace proves what the program claims: that what was written on
 //! the device realises the source, from the placement at the beginning to the one at the end, up to
 //! the turn. A line says more than its event, namely whether a CNOT was turned round, so the run is
-//! gone through once more. There is no bad input; want of memory leaves nothing behind.
+//! gone through once more. A circuit that stays on its own wires has a line for each gate in place of
+//! events, and the contract of [`trace_in_place`] promises the same of it. There is no bad input; want
+//! of memory leaves nothing behind.
 #![tactic(auto)]
 
+mod in_place;
 mod lines;
 mod replay;
 
@@ -24,7 +27,9 @@ ghost use Rattle.trace_text.specs.Texts.{ended, lines_of};
 ghost use Rattle.unitary_model.specs.Placement.{IsPlacement};
 ghost use Rattle.route_trace.specs.EventLines.{AreThere, event_lines, trace_lines};
 
-use crate::lines::{push_one, push_place};
+pub use in_place::trace_in_place;
+
+use crate::lines::{push_head, push_one};
 use crate::replay::{Replay, push_events};
 use circuit_list::Circuit;
 use coupling_map::Device;
@@ -54,10 +59,7 @@ fn text(
     ensures lines { IfOk result (λ v. ended (lines_of v.items) ≡ v.items) }
 {
     let mut bytes = Vec::new(alloc);
-    push_one(&mut bytes, b"TRACE", 1)?;
-    let lines = steps.lines()?;
-    bytes.extend_from_slice(&lines)?;
-    push_place(&mut bytes, given)?;
+    push_head(&mut bytes, steps, given)?;
     let replay = Replay::start(alloc, body, device, given)?;
     push_events(&mut bytes, replay, device, events)?;
     push_one(&mut bytes, b"end", turn as usize)?;

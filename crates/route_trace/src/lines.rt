@@ -3,11 +3,12 @@
 ghost use Rattle.std.specs.Prelude.{◌≡◌, [], ◌∷◌, ◌++◌, codes, decimal, OnOk};
 ghost use Rattle.rewrite_pass.specs.TraceLines.{words};
 ghost use Rattle.trace_text.specs.Texts.{ended};
-ghost use Rattle.trace_model.specs.Lines.{spelt};
-ghost use Rattle.route_trace.specs.EventLines.{line_of};
+ghost use Rattle.trace_model.specs.Lines.{all_spelt, spelt};
+ghost use Rattle.route_trace.specs.EventLines.{head_lines, line_of};
 
 use crate::replay::EventLine;
 use itoa::Buffer;
+use rewrite_pass::Trace;
 use std::alloc::AllocError;
 
 /// A space and a number behind it.
@@ -42,7 +43,7 @@ fn push_two(bytes: &mut Vec<u8>, word: &[u8], first: usize, second: usize) -> Re
 }
 
 /// The line of a placement.
-pub fn push_place(bytes: &mut Vec<u8>, qubits: &[u32]) -> Result<(), AllocError>
+fn push_place(bytes: &mut Vec<u8>, qubits: &[u32]) -> Result<(), AllocError>
     ensures ok { OnOk result (bytes.new.items ≡ bytes.old.items ++ (words (codes "place") qubits.now ++ 10 ∷ [])) }
 {
     bytes.extend_from_slice(b"place")?;
@@ -50,6 +51,17 @@ pub fn push_place(bytes: &mut Vec<u8>, qubits: &[u32]) -> Result<(), AllocError>
         push_number(bytes, *qubit as usize)?;
     }
     bytes.push(b'\n')?;
+    Ok(())
+}
+
+/// The lines up to the placement: the heading, those of the steps, and the placement's own.
+pub fn push_head(bytes: &mut Vec<u8>, steps: &Trace, qubits: &[u32]) -> Result<(), AllocError>
+    ensures ok { OnOk result (bytes.new.items ≡ bytes.old.items ++ ended (all_spelt (head_lines steps.now qubits.now))) }
+{
+    push_one(bytes, b"TRACE", 1)?;
+    let lines = steps.lines()?;
+    bytes.extend_from_slice(&lines)?;
+    push_place(bytes, qubits)?;
     Ok(())
 }
 

@@ -1,10 +1,9 @@
-use Rattle.std.proofs.Common.{◌≡◌, ℕ, List, [], ◌∷◌, ◌++◌, ◌∙◌, ap, subst, sym}
-use Rattle.std.specs.Prelude.{codes}
+use Rattle.std.proofs.Common.{◌≡◌, ℕ, List, ◌++◌, ◌∙◌, ap, subst, sym}
 use Rattle.trace_model.specs.Lines.{all_spelt}
 use Rattle.trace_text.specs.Texts.{ended, lines_of}
-use Rattle.route_trace.specs.EventLines.{event_lines, trace_lines}
+use Rattle.route_trace.specs.EventLines.{event_lines, head_lines, trace_lines}
 use Rattle.route_trace.proofs.TextLaws.{ended-lines}
-use Rattle.route_trace.proofs.TraceLaws.{line, text-made}
+use Rattle.route_trace.proofs.TraceLaws.{text-made}
 use Rattle.route_trace.proofs.text.Goals as goal
 
 pub returns-clause-bytes : goal.returns-clause-bytes
@@ -13,12 +12,10 @@ returns-clause-bytes c =
     let xs = c.args.events.now in
     let r = c.in_ok-replay.ensures in
     text-made c.args.steps.now c.args.given.now (event_lines es c.args.given.now c.args.body.now.gates xs) c.args.turn
-    c.push_one.new.bytes.items c.extend_from_slice.new.self.items c.push_place.new.bytes.items c.push_events.new.bytes.items c.push_one-2.new.bytes.items
-    (c.in_ok-push_one.ensures.ok ∙ ap (λ x. x ++ line (codes "TRACE") (1 ∷ [])) c.new-bytes.ensures.items)
-    (c.in_ok-extend_from_slice.ensures.items ∙ ap (λ x. c.push_one.new.bytes.items ++ x) (c.deref.ensures.value ∙ c.in_ok-lines.ensures.ok))
-    c.in_ok-push_place.ensures.ok
-    (c.in_ok-push_events.ensures.ok ∙ (λ i. c.push_place.new.bytes.items ++ ended (all_spelt (event_lines es (r.placement i) (r.rest i) xs))))
-    c.in_ok-push_one-2.ensures.ok
+    c.push_head.new.bytes.items c.push_events.new.bytes.items c.push_one.new.bytes.items
+    (c.in_ok-push_head.ensures.ok ∙ ap (λ x. x ++ ended (all_spelt (head_lines c.args.steps.now c.args.given.now))) c.new-bytes.ensures.items)
+    (c.in_ok-push_events.ensures.ok ∙ (λ i. c.push_head.new.bytes.items ++ ended (all_spelt (event_lines es (r.placement i) (r.rest i) xs))))
+    c.in_ok-push_one.ensures.ok
 
 pub returns-clause-lines : goal.returns-clause-lines
 returns-clause-lines c =

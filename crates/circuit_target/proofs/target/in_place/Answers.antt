@@ -9,35 +9,35 @@ use Rattle.circuit_target.proofs.MadeLaws.{IsFit-placed, Stands-placed, sizes-pl
 use Rattle.circuit_target.proofs.target.in_place.Goals as goal
 
 pub placed_bars-requires-clause-many : goal.placed_bars-requires-clause-many
-placed_bars-requires-clause-many c =
+placed_bars-requires-clause-many g c =
     let s = c.args.source.now in
-    ap length c.deref-2.ensures.value ∙ AllZip-long (IsPlacedPart s.wires) s.cut.parts c.in_ok-made.made.items c.in_ok-made.ensures
+    ap length c.deref-2.ensures.value ∙ AllZip-long (IsPlacedPart s.wires) s.cut.parts c.in_ok-made.field-0.made.items c.in_ok-made.ensures.placed
 
 pub placed_bars-requires-clause-placed : goal.placed_bars-requires-clause-placed
-placed_bars-requires-clause-placed c =
+placed_bars-requires-clause-placed g c =
     let s = c.args.source.now in
-    subst (All (λ m. s.wires ≤ length m.last)) (sym c.deref-2.ensures.value) (wide-placed s.wires s.cut.parts c.in_ok-made.made.items c.in_ok-made.ensures)
+    subst (All (λ m. s.wires ≤ length m.last)) (sym c.deref-2.ensures.value) (wide-placed s.wires s.cut.parts c.in_ok-made.field-0.made.items c.in_ok-made.ensures.placed)
 
 pub turn_of-requires : goal.turn_of-requires
-turn_of-requires c = record {
+turn_of-requires g c = record {
   turns =
       let s = c.args.source.now in
-      subst (All (λ m. m.turn < 8)) (sym c.deref-3.ensures.value) (turns-placed s.wires s.cut.parts c.in_ok-made.made.items c.in_ok-made.ensures);
+      subst (All (λ m. m.turn < 8)) (sym c.deref-3.ensures.value) (turns-placed s.wires s.cut.parts c.in_ok-made.field-0.made.items c.in_ok-made.ensures.placed);
 }
 
 pub told_parts-requires : goal.told_parts-requires
-told_parts-requires c =
+told_parts-requires g c =
     let s = c.args.source.now in
-    record { many = ap length c.deref-4.ensures.value ∙ AllZip-long (IsPlacedPart s.wires) s.cut.parts c.in_ok-made.made.items c.in_ok-made.ensures }
+    record { many = ap length c.deref-4.ensures.value ∙ AllZip-long (IsPlacedPart s.wires) s.cut.parts c.in_ok-made.field-0.made.items c.in_ok-made.ensures.placed }
 
 pub body_of-requires-clause-each : goal.body_of-requires-clause-each
-body_of-requires-clause-each c =
+body_of-requires-clause-each g c =
     let s = c.args.source.now in
-    subst (λ n. All (IsOnSize n) c.in_ok-made.made.items) (sym c.wires-wires.ensures.value)
-    (sizes-placed s.wires s.cut.parts c.in_ok-made.made.items c.in_ok-made.ensures)
+    subst (λ n. All (IsOnSize n) c.in_ok-made.field-0.made.items) (sym c.wires-wires.ensures.value)
+    (sizes-placed s.wires s.cut.parts c.in_ok-made.field-0.made.items c.in_ok-made.ensures.placed)
 
 pub returns : goal.returns
-returns c =
+returns g c =
     let s = c.args.source.now in
     let f = c.facts.ensures in
     let own = c.in_ok-last.ensures.identity ∙ ap identity c.wires-wires.ensures.value in
@@ -54,9 +54,9 @@ returns c =
       cost = None;
       parts = c.in_ok-told_parts.field-0;
       spares = None;
-      trace = c.new.result;
+      trace = c.in_ok-made.field-0.trace;
     } in
-    let made : IsAssembled c.args.keep s c.in_ok-made.made.items t = record {
+    let made : IsAssembled c.args.keep s c.in_ok-made.field-0.made.items t = record {
       gates = c.in_ok-body_of.ensures.gates;
       lengths = c.in_ok-lengths_of.ensures.ok ∙ ap (map (λ m. length m.body.gates)) c.deref.ensures.value;
       bars = c.in_ok-placed_bars.ensures.ok ∙ ap (λ ns. placed_barriers (parts_of s.cut.parts ns) s.cut.bars) c.deref-2.ensures.value;
@@ -64,8 +64,9 @@ returns c =
       tells = c.in_ok-told_parts.ensures.ok ∙ ap (λ ns. told_parts c.args.keep (parts_of s.cut.parts ns)) c.deref-4.ensures.value;
     } in
     let wires = c.in_ok-body_of.ensures.wires ∙ c.wires-wires.ensures.value in
+    let made_of = c.in_ok-made.ensures in
     record {
-      stands = Stands-placed c.args.keep s c.in_ok-made.made.items t f.cut f.parts f.bars made c.in_ok-made.ensures wires refl initial last refl
-          c.new.ensures.items refl;
-      fit = IsFit-placed c.args.keep s c.in_ok-made.made.items t f.cut f.parts f.bars made c.in_ok-made.ensures wires initial last c.new.ensures.items;
+      stands = Stands-placed c.args.keep c.args.traced s c.in_ok-made.field-0.made.items t f.cut f.parts f.bars made made_of.placed wires refl initial last refl
+          c.requires.traced made_of.told made_of.silent f.operations_limit refl;
+      fit = IsFit-placed c.args.keep s c.in_ok-made.field-0.made.items t f.cut f.parts f.bars made made_of.placed wires initial last made_of.lines;
     }
