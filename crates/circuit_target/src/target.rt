@@ -117,11 +117,7 @@ fn qubits_of(alloc: Global, placement: &Placement) -> Result<Wires, AllocError>
 }
 
 /// The qubit of each wire; the list is another's, if that is the same.
-fn qubits_like(
-    alloc: Global,
-    placement: &Placement,
-    other: &Wires,
-) -> Result<Wires, AllocError>
+fn qubits_like(alloc: Global, placement: &Placement, other: &Wires) -> Result<Wires, AllocError>
     ensures { IfOk result (λ w. w ≡ placement.now) }
 {
     if other.as_slice() == placement.qubits() {
