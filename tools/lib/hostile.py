@@ -9,6 +9,7 @@ each; and texts under a long name, of which `route` writes gigabytes.
 """
 
 import dataclasses
+import itertools
 import typing
 
 HEAD = 'OPENQASM 2.0;\ninclude "qelib1.inc";\n'
@@ -179,6 +180,24 @@ def wide_barriers(gates, wires=256):
     return HEAD + f"qreg q[{wires}];\n" + "".join(f"t q[{i % wires}];barrier q;" for i in range(gates))
 
 
+def new_orders(wires=256):
+    """Barriers that name all wires, each in another order."""
+    lines = (f"barrier q[{i // wires // wires}],q[{i // wires % wires}],q[{i % wires}],q;" for i in range(MOST_BYTES // 23))
+    begins = HEAD + f"qreg q[{wires}];\n"
+    return begins + "".join(itertools.takewhile(fits(MOST_BYTES - len(begins)), lines))
+
+
+def fits(room):
+    """Whether one text more fits into so much room, asked of one after the other."""
+
+    def one_more(text):
+        nonlocal room
+        room -= len(text)
+        return room >= 0
+
+    return one_more
+
+
 def there_and_back(wires=64):
     """CNOTs that all cancel, far apart."""
     half = MOST_OPERATIONS // 2
@@ -344,8 +363,10 @@ KINDS = [
     Kind("barriers that are kept, a gate behind each", KEPT, 0, lambda: filled(ONE, "barrier q;t q;", most=MOST_OPERATIONS * 14)),
     Kind("barriers on 256 wires that are kept", KEPT, 0, lambda: filled(f"{HEAD}qreg q[256];\n", "barrier q;")),
     Kind("barriers of two orders in turn that are kept", KEPT, 0, lambda: filled(f"{HEAD}qreg q[128]; qreg r[128];\n", "barrier q,r;barrier r,q;")),
+    Kind("barriers of ever new orders that are kept", KEPT, 0, new_orders),
     Kind("barriers on 256 wires, a gate behind each", KEPT, 0, lambda: wide_barriers(MOST_OPERATIONS)),
     Kind("CNOTs on a line of 16, a barrier behind each", (*ROUTE, "--keep-barriers"), 0, barred, lambda: line(16)),
+    Kind("barriers on a line of 256", (*ROUTE, "--keep-barriers"), 0, lambda: filled(f"{HEAD}qreg q[256];\n", "barrier q;"), lambda: line(256)),
     Kind("a comment", OPT, 0, lambda: filled(ONE + "t q[0]; //", "/")),
     Kind("digits", CHECK, 0, lambda: filled(ONE + "u1(0.", "0", ") q[0];")),
     Kind("zeros, and then a digit", CHECK, 3, lambda: filled(ONE + "u1(", "0", "1")),

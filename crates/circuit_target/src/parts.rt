@@ -8,7 +8,7 @@ ghost use Rattle.circuit_target.specs.Making.{IsOnSize, lasts_but_one, parts_of,
 
 use crate::parted::PartedProgram;
 use circuit_list::Circuit;
-use gate_inline::Barrier;
+use gate_inline::{Barrier, Barriers};
 use route_report::{Parts, Wires};
 use std::alloc::{AllocError, Global};
 use unitary_model::turn_sum;
@@ -119,6 +119,23 @@ fn placed_bar(alloc: Global, bar: &[u32], last: &[u32]) -> Result<Vec<u32>, Allo
     Ok(qubits)
 }
 
+/// The barrier on the qubits of the wires that a barrier names; if each stands on its own qubit, it is the same one.
+fn placed_barrier(
+    alloc: Global,
+    bar: &Barrier,
+    last: &[u32],
+    placed: &mut Barriers,
+) -> Result<Barrier, AllocError>
+    requires { All (λ w. w < length last.now) bar.now.items }
+    ensures { IfOk result (λ b. b.items ≡ map (slice_index last.now) bar.now.items) }
+{
+    let qubits = placed_bar(alloc, bar.wires(), last)?;
+    if bar.is_on(&qubits) {
+        return bar.copy();
+    }
+    placed.on(alloc, qubits)
+}
+
 /// The qubits that each barrier of a source names, where the part before it ends.
 #[tactic(auto, using(crate::proofs::PartLaws::parts))]
 pub fn placed_bars(
@@ -133,9 +150,10 @@ pub fn placed_bars(
     source.facts();
     let bars = source.bars();
     let mut placed = Vec::with_capacity(alloc, bars.len())?;
+    let mut others = Barriers::new(alloc);
     'bars: for part in 0..bars.len() {
-        let qubits = placed_bar(alloc, bars[part].wires(), made[part].last.as_slice())?;
-        let bar = Barrier::behind(alloc, qubits, &placed)?;
+        let last = made[part].last.as_slice();
+        let bar = placed_barrier(alloc, &bars[part], last, &mut others)?;
         placed.push(bar)?;
     }
     Ok(placed)

@@ -116,6 +116,16 @@ fn qubits_of(alloc: Global, placement: &Placement) -> Result<Wires, AllocError>
     Wires::shared(alloc, Vec::from_slice(alloc, placement.qubits())?)
 }
 
+/// The qubit of each wire; the list is another's, if that is the same.
+fn qubits_like(alloc: Global, placement: &Placement, other: &Wires) -> Result<Wires, AllocError>
+    ensures { IfOk result (λ w. w ≡ placement.now) }
+{
+    if other.as_slice() == placement.qubits() {
+        return other.copy();
+    }
+    qubits_of(alloc, placement)
+}
+
 /// The bytes of the trace of a circuit that was rewritten and stays on its own wires, where its steps are told; else none.
 fn trace_on_wires<T: RunTraces>(
     alloc: Global,
@@ -350,13 +360,14 @@ struct RoutedPart {
 }
 
 /// A part on the qubits of a device: the routing machine's run from the given placement on. Its trace is told where the steps
-/// before it are.
+/// before it are. Where its wires end is a list of `before`, if that is the same.
 fn routed_part<T: RunTraces>(
     alloc: Global,
     traces: &T,
     rewritten: &Rewritten,
     device: &Device,
     given: Placement,
+    before: &Wires,
     lookout: &mut Option<Lookout<'_>>,
     clean: bool,
 ) -> Result<RoutedPart, AllocError>
@@ -390,7 +401,7 @@ fn routed_part<T: RunTraces>(
         turn,
     )?;
     let routed = run.routed;
-    let last = qubits_of(alloc, &routed.last)?;
+    let last = qubits_like(alloc, &routed.last, before)?;
     let left = cleaned(alloc, routed.body, clean)?;
     left.body.facts();
     Ok(RoutedPart {
@@ -436,9 +447,11 @@ fn routed_parts<T: RunTraces>(
 {
     let mut made = Vec::with_capacity(alloc, rewritten.len())?;
     let mut trace = Vec::new(alloc);
+    let mut before = qubits_of(alloc, &given)?;
     let mut now = given;
     'parts: for part in rewritten {
-        let leg = routed_part(alloc, traces, part, device, now, lookout, clean)?;
+        let leg = routed_part(alloc, traces, part, device, now, &before, lookout, clean)?;
+        before = leg.made.last.copy()?;
         made.push(leg.made)?;
         trace = leg.trace;
         now = leg.last;

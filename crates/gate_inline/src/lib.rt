@@ -30,7 +30,7 @@ mod splitting;
 mod stop;
 mod value;
 
-pub use barrier::Barrier;
+pub use barrier::{Barrier, Barriers};
 pub use inlining::{inline, inline_parts};
 pub use laws::{
     cut_once, inlined_has_no_fault, inlined_or_refused, operations_are_cut, refused_once,

@@ -7,7 +7,7 @@ ghost use Rattle.gate_library.specs.Operands.{wires_of};
 ghost use Rattle.gate_inline.specs.Parting.{AreMarked, IsOn, IsOnWires, cut_in, ended_at, named_of, so_far, with_wire};
 ghost use Rattle.gate_inline.specs.Splits.{if_some, once};
 
-use crate::barrier::Barrier;
+use crate::barrier::{Barrier, Barriers};
 use qasm_check::{Operand, Step};
 use std::alloc::{AllocError, Global};
 use unitary_model::Op;
@@ -92,6 +92,7 @@ fn end_with(
     alloc: Global,
     wires: Vec<u32>,
     list: &[Op],
+    made: &mut Barriers,
     parts: &mut Parts,
 ) -> Result<(), AllocError>
     requires start { parts.old.start ≤ length list.now }
@@ -103,7 +104,7 @@ fn end_with(
     }
     let part = copied_from(alloc, list, parts.start)?;
     parts.done.push(part)?;
-    let bar = Barrier::behind(alloc, wires, &parts.bars)?;
+    let bar = made.on(alloc, wires)?;
     parts.bars.push(bar)?;
     parts.start = list.len();
     Ok(())
@@ -115,6 +116,7 @@ pub fn end_part(
     step: &Step,
     list: &[Op],
     marks: &mut [bool],
+    made: &mut Barriers,
     parts: &mut Parts,
 ) -> Result<(), AllocError>
     requires placed { IsOnWires (length marks.old) (step_view step.now) }
@@ -128,7 +130,7 @@ pub fn end_part(
     match step {
         Step::Barrier { operands } => {
             let wires = named_wires(alloc, operands.as_slice(), marks)?;
-            end_with(alloc, wires, list, parts)
+            end_with(alloc, wires, list, made, parts)
         }
         Step::Apply {
             gate: _,

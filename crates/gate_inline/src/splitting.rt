@@ -9,6 +9,7 @@ ghost use Rattle.gate_inline.specs.Placed.{IsPlaced};
 ghost use Rattle.gate_inline.specs.Progress.{gate_views};
 ghost use Rattle.gate_inline.specs.Splits.{IsCutBy, IsSplit};
 
+use crate::barrier::Barriers;
 use crate::inliner::Inliner;
 use crate::parts::{Parts, end_all, end_part, no_marks};
 use crate::program::{Unwritten, at_statement, fitting_inliner, number, reads, unwritten_fault};
@@ -40,12 +41,20 @@ fn split_operations<'a, 'b>(
         bars: Vec::new(alloc),
         start: 0,
     };
+    let mut made = Barriers::new(alloc);
     'steps: for (i, step) in steps.iter().enumerate() {
         match inliner.write_step(alloc, step) {
             Ok(()) => {}
             Err(stop) => return Err(at_statement(stop, number(i))),
         }
-        end_part(alloc, step, inliner.operations(), marks, &mut parts)?;
+        end_part(
+            alloc,
+            step,
+            inliner.operations(),
+            marks,
+            &mut made,
+            &mut parts,
+        )?;
     }
     Ok(end_all(alloc, inliner.operations(), parts)?)
 }

@@ -12,7 +12,7 @@ ghost use Rattle.qasm_writer.specs.Texts.{barrier_line, bits_line, index_text, l
 
 use crate::nowhere::Nowhere;
 use crate::output::{Output, Register};
-use crate::pieces::{PieceBuffer, put, put_bytes, put_number};
+use crate::pieces::{PieceBuffer, put, put_byte, put_bytes, put_number};
 use circuit_list::{Circuit, Gate};
 use outside_io::{Failed, Sink};
 use trace_text::first_line;
@@ -23,9 +23,9 @@ fn put_place<S: Sink>(buffer: &mut PieceBuffer, sink: &mut S, place: usize) -> R
     ensures err { OnErr result (GainsPrefix (S.held sink.old) (S.held sink.new) (buffer.old ++ index_text [] place)) }
     ensures cause { HasCause (S.faults sink.old) (S.faults sink.new) result }
 {
-    put(buffer, sink, "[")?;
+    put_byte(buffer, sink, b'[')?;
     put_number(buffer, sink, place)?;
-    put(buffer, sink, "]")
+    put_byte(buffer, sink, b']')
 }
 
 /// Underscores, of which some go out at once.
@@ -62,7 +62,7 @@ fn put_qubit<S: Sink>(
     ensures err { OnErr result (GainsPrefix (S.held sink.old) (S.held sink.new) (buffer.old ++ index_text (with_underscores q) wire)) }
     ensures cause { HasCause (S.faults sink.old) (S.faults sink.new) result }
 {
-    put(buffer, sink, "q")?;
+    put_byte(buffer, sink, b'q')?;
     put_underscores(buffer, sink, q)?;
     put_place(buffer, sink, wire as usize)
 }

@@ -1,6 +1,6 @@
 //! Bytes on their way to a sink: they wait in a buffer until it holds a whole piece.
 
-ghost use Rattle.std.specs.Prelude.{◌≡◌, ◌≤◌, ◌<◌, ◌++◌, [], IfOk, OnErr, OnOk, decimal, length, vec_capacity};
+ghost use Rattle.std.specs.Prelude.{◌≡◌, ◌≤◌, ◌<◌, ◌++◌, ◌∷◌, [], IfOk, OnErr, OnOk, decimal, length, vec_capacity};
 ghost use Rattle.outside_io.specs.Bytes.{Gains, GainsPrefix};
 ghost use Rattle.outside_io.specs.Causes.{HasCause};
 ghost use Rattle.qasm_writer.specs.Pieces.{HasPieceRoom, Sends};
@@ -110,6 +110,20 @@ pub fn put_bytes<S: Sink>(
         rest = fill(&mut buffer.bytes, rest);
     }
     Ok(())
+}
+
+/// Puts a byte.
+#[tactic(auto, using(crate::proofs::PieceLaws::pieces))]
+pub fn put_byte<S: Sink>(buffer: &mut PieceBuffer, sink: &mut S, byte: u8) -> Result<(), Failed>
+    ensures ok { OnOk result (Sends (S.held sink.old) buffer.old (S.held sink.new) buffer.new (byte ∷ [])) }
+    ensures err { OnErr result (GainsPrefix (S.held sink.old) (S.held sink.new) (buffer.old ++ byte ∷ [])) }
+    ensures cause { HasCause (S.faults sink.old) (S.faults sink.new) result }
+{
+    buffer.bytes.push(byte).unwrap();
+    if buffer.bytes.len() < PIECE {
+        return Ok(());
+    }
+    send_waiting(&mut buffer.bytes, sink)
 }
 
 /// Puts a word.

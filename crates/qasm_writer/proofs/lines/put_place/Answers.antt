@@ -2,16 +2,16 @@ use Rattle.std.proofs.Common.{codes, decimal}
 use Rattle.qasm_writer.proofs.PieceLaws.{fault-now, fault-then, on_err, then-err, then-ok}
 use Rattle.qasm_writer.proofs.lines.put_place.Goals as goal
 
-pub returns-in_err-put-clause-err : goal.returns-in_err-put-clause-err
-returns-in_err-put-clause-err g c =
-    on_err _ _ (fault-now _ _ c.args.buffer.now (codes "[") _ c.in_err-put.ensures.err)
+pub returns-in_err-put_byte-clause-err : goal.returns-in_err-put_byte-clause-err
+returns-in_err-put_byte-clause-err g c =
+    on_err _ _ (fault-now _ _ c.args.buffer.now (codes "[") _ c.in_err-put_byte.ensures.err)
 
 pub returns-in_err-put_number-clause-err : goal.returns-in_err-put_number-clause-err
 returns-in_err-put_number-clause-err g c =
-    on_err _ _ (fault-then _ _ _ _ _ _ _ c.in_ok-put.ensures.ok (fault-now _ _ c.put.new.buffer (decimal c.args.place) _ c.in_err-put_number.ensures.err))
+    on_err _ _ (fault-then _ _ _ _ _ _ _ c.in_ok-put_byte.ensures.ok (fault-now _ _ c.put_byte.new.buffer (decimal c.args.place) _ c.in_err-put_number.ensures.err))
 
 pub returns-clause-ok : goal.returns-clause-ok
-returns-clause-ok g c = then-ok _ _ _ _ _ _ _ _ _ c.in_ok-put.ensures.ok (then-ok _ _ _ _ _ _ _ _ _ c.in_ok-put_number.ensures.ok c.put-2.ensures.ok)
+returns-clause-ok g c = then-ok _ _ _ _ _ _ _ _ _ c.in_ok-put_byte.ensures.ok (then-ok _ _ _ _ _ _ _ _ _ c.in_ok-put_number.ensures.ok c.put_byte-2.ensures.ok)
 
 pub returns-clause-err : goal.returns-clause-err
-returns-clause-err g c = then-err _ _ _ _ _ _ _ _ c.in_ok-put.ensures.ok (then-err _ _ _ _ _ _ _ _ c.in_ok-put_number.ensures.ok c.put-2.ensures.err)
+returns-clause-err g c = then-err _ _ _ _ _ _ _ _ c.in_ok-put_byte.ensures.ok (then-err _ _ _ _ _ _ _ _ c.in_ok-put_number.ensures.ok c.put_byte-2.ensures.err)
