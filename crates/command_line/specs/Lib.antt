@@ -1,3 +1,5 @@
 -- ---- definitions that public clauses reach
 pub mod Commands
 pub mod Demands
+-- ---- working forms
+pub mod Subcommands

@@ -9,11 +9,12 @@
 //! `command` says that the answer is the command of the words by `clap`'s own definitions, and that words are refused
 //! exactly where they mean none.
 
-ghost use Rattle.std.specs.Prelude.{◌≡◌, ◌==◌, [], IfOk, IfSome, IsErrOf, Some, None, map, false, nat_eq, option_and_then};
+ghost use Rattle.std.specs.Prelude.{◌≡◌, ◌==◌, ◌||◌, [], IfOk, IfSome, IsErrOf, Some, None, map, false, nat_eq, option_and_then};
 ghost use Rattle.std.specs.List.{IsDistinct, list_all};
 ghost use Rattle.clap.specs.Words.{app_of, first_of, found_of, kind_of, rows_of, rule_of};
 ghost use Rattle.clap.specs.declared.builder.Command.TheViews.{out-Command as fields_of};
-ghost use Rattle.command_line.specs.Commands.{IsAllowed, IsBeginAllowed, amplitude_command, amplitude_of, begin_of, begins_twice, bench_command, bench_of, bits_of, check_command, checked_command, clashes, clashes_with_trace, command_of, device_commands, entry_commands, flag, has_initial, has_spares, has_tries, if_different, initial_of, is_bit, is_given, subcommand_meaning, needed_option, number_of, numbers_in, opt_command, opt_of, optional, pieces, placed_command, plain_commands, qroute_command, qubits_of, root_command, route_command, route_of, stages_command, stages_of, texts_command, traced_command, verify_command, verify_of};
+ghost use Rattle.command_line.specs.Commands.{IsAllowed, IsBeginAllowed, amplitude_of, begin_of, begins_twice, bench_of, bits_behind, bits_of, clashes_with_trace, command_of, flag, has_text, if_different, initial_of, is_bit, is_given, needed_option, number_behind, number_of, numbers_in, opt_of, optional, pieces, qroute_command, qubits_of, route_of, stages_of, subcommand_meaning, verify_of};
+ghost use Rattle.command_line.specs.Subcommands.{amplitude_command, bench_command, check_command, checked_command, device_commands, entry_commands, opt_command, placed_command, plain_commands, root_command, route_command, stages_command, texts_command, traced_command, verify_command};
 
 use crate::bits::BitList;
 use crate::commands::{self, Begin, Verifying, WordsFault};
@@ -233,31 +234,24 @@ fn clashes_with_trace(matches: &ArgMatches<'_>) -> bool
     is_given(matches, "trace") && (is_given(matches, "keep-barriers") || is_given(matches, "clean"))
 }
 
-/// Whether a list of qubits is given.
-fn has_initial(matches: &ArgMatches<'_>) -> bool
-    ensures { result ≡ has_initial (rows_of (found_of matches.now)) }
+/// Whether a text is given behind an option.
+fn has_text(matches: &ArgMatches<'_>, id: &str) -> bool
+    ensures { result ≡ has_text id.now (rows_of (found_of matches.now)) }
 {
-    matches.get_str("initial").is_some()
-}
-
-/// Whether a number of tries is given.
-fn has_tries(matches: &ArgMatches<'_>) -> bool
-    ensures { result ≡ has_tries (rows_of (found_of matches.now)) }
-{
-    matches.get_str("tries").is_some()
+    matches.get_str(id).is_some()
 }
 
 /// Whether the wires are to begin in more than one way.
 fn begins_twice(matches: &ArgMatches<'_>) -> bool
     ensures { result ≡ begins_twice (rows_of (found_of matches.now)) }
 {
-    (is_given(matches, "trivial") && (has_initial(matches) || has_tries(matches)))
-        || (has_initial(matches) && has_tries(matches))
+    (is_given(matches, "trivial") && (has_text(matches, "initial") || has_text(matches, "tries")))
+        || (has_text(matches, "initial") && has_text(matches, "tries"))
 }
 
 /// Whether what is asked for of `route` isn't to be had together.
 fn clashes(matches: &ArgMatches<'_>) -> bool
-    ensures { result ≡ clashes (rows_of (found_of matches.now)) }
+    ensures { result ≡ (clashes_with_trace (rows_of (found_of matches.now)) || begins_twice (rows_of (found_of matches.now))) }
 {
     clashes_with_trace(matches) || begins_twice(matches)
 }
@@ -316,13 +310,13 @@ fn begin_of(alloc: Global, matches: &ArgMatches<'_>) -> Result<Begin, WordsFault
     if is_given(matches, "trivial") {
         return Ok(Begin::Trivial);
     }
-    if has_initial(matches) {
+    if has_text(matches, "initial") {
         return match initial_of(alloc, matches)? {
             None => Err(WordsFault::BadWords),
             Some(list) => Ok(Begin::Listed(list)),
         };
     }
-    if has_tries(matches) {
+    if has_text(matches, "tries") {
         return match number_behind(matches, "tries", 1, 256) {
             None => Err(WordsFault::BadWords),
             Some(tries) => Ok(Begin::Tries(tries)),
@@ -373,16 +367,9 @@ fn number(text: &str, least: u32, most: u32) -> Option<u32>
 
 /// The number from `least` to `most` behind an option.
 fn number_behind(matches: &ArgMatches<'_>, id: &str, least: u32, most: u32) -> Option<u32>
-    ensures { result ≡ option_and_then (number_of least most) (first_of id.now (rows_of (found_of matches.now))) }
+    ensures { result ≡ number_behind least most id.now (rows_of (found_of matches.now)) }
 {
     number(matches.get_str(id)?, least, most)
-}
-
-/// Whether spare wires are asked for.
-fn has_spares(matches: &ArgMatches<'_>) -> bool
-    ensures { result ≡ has_spares (rows_of (found_of matches.now)) }
-{
-    matches.get_str("spares").is_some()
 }
 
 /// What `opt` with its matches asks for.
@@ -392,7 +379,7 @@ fn opt_of(matches: &ArgMatches<'_>) -> Result<commands::Command, WordsFault>
     ensures allowed { IfOk result IsAllowed }
 {
     let kept = is_given(matches, "keep-barriers");
-    if !has_spares(matches) {
+    if !has_text(matches, "spares") {
         return Ok(commands::Command::Opt {
             keep_barriers: kept,
         });
@@ -412,7 +399,7 @@ fn stages_of(matches: &ArgMatches<'_>) -> Result<commands::Command, WordsFault>
     ensures bad { IsErrOf result WordsFault.BadWords → stages_of (rows_of (found_of matches.now)) ≡ None }
     ensures allowed { IfOk result IsAllowed }
 {
-    if !has_spares(matches) {
+    if !has_text(matches, "spares") {
         return Ok(commands::Command::Stages { spares: None });
     }
     match number_behind(matches, "spares", 1, 255) {
@@ -478,7 +465,7 @@ fn bits_behind(
     matches: &ArgMatches<'_>,
     id: &str,
 ) -> Result<Option<BitList>, AllocError>
-    ensures { IfOk result (λ o. o ≡ option_and_then bits_of (first_of id.now (rows_of (found_of matches.now)))) }
+    ensures { IfOk result (λ o. o ≡ bits_behind id.now (rows_of (found_of matches.now))) }
 {
     match matches.get_str(id) {
         None => Ok(None),
