@@ -1,6 +1,6 @@
 -- Working form.
 --     root_command        the program, before its subcommands
---     check_command, opt_command, ..   each subcommand
+--     check_command, opt_command, stages_command, route_command, bench_command, amplitude_command, verify_command   each subcommand
 --     traced_command, placed_command   `route` with `--device`, `--trivial` and `--trace`; and with `--initial` and `--tries`
 --     texts_command, checked_command   `verify` with `--source` and `--target`; and with its flags
 --     plain_commands      the program with the subcommands that need no value
