@@ -15,9 +15,9 @@ use Rattle.route_report.specs.declared.faults.Fault.{Fault}
 use Rattle.route_report.specs.declared.faults.Fault.TheVariants as fault
 use Rattle.route_report.specs.Compact.{json_whole, wholes}
 use Rattle.route_report.specs.Faults.{fault_data}
-use Rattle.route_report.specs.Lines.{check_data, count_members, middle_members, with_cost, with_powers, with_spares}
+use Rattle.route_report.specs.Lines.{check_data}
 use Rattle.route_report.specs.Parts.{ToldParts}
-use Rattle.route_report.specs.Unplaced.{unplaced_data}
+use Rattle.route_report.specs.Unplaced.{count_members, middle_members, unplaced_data, with_cost, with_powers, with_spares}
 use Rattle.route_report.specs.Verdicts.{placed_data}
 
 items_have_float-wholes : (ns : List ℕ) → items_have_float (items_of (map json_whole ns)) ≡ false

@@ -15,9 +15,9 @@ use Rattle.serde_json.specs.View.{items_of}
 use Rattle.serde_json.specs.Written.{comma_if, compact_text, items_text, members_text}
 use Rattle.route_report.specs.declared.lines.Report.{Report}
 use Rattle.route_report.specs.Compact.{line, lists, json_whole}
-use Rattle.route_report.specs.Lines.{last_members, middle_members, report_line, with_between, with_cost, with_powers}
+use Rattle.route_report.specs.Lines.{report_line}
 use Rattle.route_report.specs.Parts.{ToldParts}
-use Rattle.route_report.specs.Unplaced.{unplaced_data}
+use Rattle.route_report.specs.Unplaced.{last_members, middle_members, unplaced_data, with_between, with_cost, with_powers}
 
 pub pushed-next : {A : Type 0} (data_of : A → Data) (b c all : List ℕ) (later : Bool) (xs : List A) (i : ℕ) (x : A)
     → i < length xs → x ≡ get_or xs i x → c ≡ b ++ (comma_if later ++ compact_text (data_of x))

@@ -8,9 +8,8 @@ use Rattle.serde_json.proofs.OnLiterals.{serde_json_on_literals}
 use Rattle.serde_json.specs.Data.{Data, Members, member, object, put}
 use Rattle.route_report.specs.declared.lines.Report.{Report}
 use Rattle.route_report.specs.Compact.{json_whole, wholes}
-use Rattle.route_report.specs.Lines.{count_members, last_members, middle_members, with_cost, with_powers, with_spares}
 use Rattle.route_report.specs.Parts.{ToldParts}
-use Rattle.route_report.specs.Unplaced.{unplaced_data}
+use Rattle.route_report.specs.Unplaced.{count_members, last_members, middle_members, unplaced_data, with_cost, with_powers, with_spares}
 
 pub costless-put : (r : Report) (k : ℕ) (d v : Data) → r.spares ≡ Some k → d ≡ json_whole k
     → v ≡ object (put (codes "spares") d (member (codes "barriers") (json_whole r.barriers) (middle_members r

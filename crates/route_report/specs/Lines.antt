@@ -1,8 +1,6 @@
 -- The report line and the check line: one JSON object each, its keys in the order of their bytes.
 --   format_of                    the number of the report's format
---   with_between, with_cost, with_powers, with_spares   other keys, and in front of them one that isn't always told
---   middle_members, count_members, last_members   the keys from `cx_after` to `initial`, with others behind, those from `swaps`
---                                on, and those from `phase` on
+--   member_if                    other keys, and in front of them one that isn't always told
 --   report_data, check_data      the object
 --   report_line, check_line      its line
 use Rattle.std.specs.Prelude.{ℕ, List, Option, None, Some, codes}
@@ -19,52 +17,30 @@ format_of (Some parts) cost None = 3
 format_of None (Some cost) None = 2
 format_of None None None = 1
 
--- the placements between parts stand in front of the other keys, where they are told
-abbrev pub with_between : Option ToldParts → Members → Members
-with_between None others = others
-with_between (Some parts) others = member (codes "between") (lists parts.between) others
+-- a member that is told where there is something to tell, in front of others
+abbrev pub member_if : {A : Type 0} → List ℕ → Option A → (A → Data) → Members → Members
+member_if key None data_of others = others
+member_if key (Some x) data_of others = member key (data_of x) others
 
--- .. so do the costs
-abbrev pub with_cost : Option ℕ → Members → Members
-with_cost None others = others
-with_cost (Some cost) others = member (codes "cost") (json_whole cost) others
-
--- .. and the powers of the parts
-abbrev pub with_powers : Option ToldParts → Members → Members
-with_powers None others = others
-with_powers (Some parts) others = member (codes "parts") (wholes parts.powers) others
-
--- .. and the spare wires
-abbrev pub with_spares : Option ℕ → Members → Members
-with_spares None others = others
-with_spares (Some spares) others = member (codes "spares") (json_whole spares) others
-
-abbrev pub middle_members : Report → Members → Members
-middle_members r others =
-    member (codes "cx_after") (json_whole r.cx_after)
+abbrev pub report_data : Report → Data
+report_data r = object
+    (member (codes "barriers") (json_whole r.barriers)
+    (member_if (codes "between") r.parts (λ parts. lists parts.between)
+    (member_if (codes "cost") r.cost json_whole
+    (member (codes "cx_after") (json_whole r.cx_after)
     (member (codes "cx_before") (json_whole r.cx_before)
     (member (codes "device") (json_whole r.device)
     (member (codes "final") (wholes r.last)
     (member (codes "format") (json_whole (format_of r.parts r.cost r.spares))
     (member (codes "initial") (wholes r.initial)
-    others)))))
-
-abbrev pub count_members : Report → Members
-count_members r =
-    member (codes "swaps") (json_whole r.swaps)
+    (member_if (codes "parts") r.parts (λ parts. wholes parts.powers)
+    (member (codes "phase") (json_whole r.phase)
+    (member (codes "qubits") (json_whole r.qubits)
+    (member_if (codes "spares") r.spares json_whole
+    (member (codes "swaps") (json_whole r.swaps)
     (member (codes "t_after") (json_whole r.t_after)
     (member (codes "t_before") (json_whole r.t_before)
-    no_members))
-
-abbrev pub last_members : Report → Members
-last_members r =
-    member (codes "phase") (json_whole r.phase)
-    (member (codes "qubits") (json_whole r.qubits)
-    (with_spares r.spares (count_members r)))
-
-abbrev pub report_data : Report → Data
-report_data r = object (member (codes "barriers") (json_whole r.barriers) (with_between r.parts (with_cost r.cost
-    (middle_members r (with_powers r.parts (last_members r))))))
+    no_members))))))))))))))))
 
 abbrev pub report_line : Report → List ℕ
 report_line r = line (report_data r)

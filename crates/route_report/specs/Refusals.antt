@@ -1,38 +1,9 @@
 -- The refusals of a program's text, of a device's text, of a list of its qubits and of a question on a program, by their codes.
---   self_edge, not_connected, too_few_qubits, edge_cost, initial, wide_program, many_branches, bits_length, too_many_spares
---               the codes of the refusals that tell more than their code
 --   refusals    the table: code and name
 --   refusal_name  the name of a code ("Unknown" where the table has none)
 --   stops_with  the status that a refusal ends with
 use Rattle.std.specs.Prelude.{ℕ, List, [], ◌∷◌, ◌==◌, ◌&&◌, if◌then◌else◌, codes, find, nat_le}
 use Rattle.std.specs.Option.{option_map_or}
-
-abbrev pub self_edge : ℕ
-self_edge = 53
-
-abbrev pub not_connected : ℕ
-not_connected = 54
-
-abbrev pub too_few_qubits : ℕ
-too_few_qubits = 56
-
-abbrev pub edge_cost : ℕ
-edge_cost = 57
-
-abbrev pub initial : ℕ
-initial = 58
-
-abbrev pub wide_program : ℕ
-wide_program = 70
-
-abbrev pub many_branches : ℕ
-many_branches = 71
-
-abbrev pub bits_length : ℕ
-bits_length = 72
-
-abbrev pub too_many_spares : ℕ
-too_many_spares = 73
 
 abbrev pub refusals : List (ℕ × List ℕ)
 refusals =
@@ -65,17 +36,17 @@ refusals =
     (50, codes "DeviceText") ∷
     (51, codes "DeviceShape") ∷
     (52, codes "DeviceRange") ∷
-    (self_edge, codes "SelfEdge") ∷
-    (not_connected, codes "NotConnected") ∷
+    (53, codes "SelfEdge") ∷
+    (54, codes "NotConnected") ∷
     (55, codes "DeviceTooLong") ∷
-    (too_few_qubits, codes "TooFewQubits") ∷
-    (edge_cost, codes "EdgeCost") ∷
-    (initial, codes "Initial") ∷
+    (56, codes "TooFewQubits") ∷
+    (57, codes "EdgeCost") ∷
+    (58, codes "Initial") ∷
     (60, codes "TextTooLong") ∷
-    (wide_program, codes "WideProgram") ∷
-    (many_branches, codes "ManyBranches") ∷
-    (bits_length, codes "BitsLength") ∷
-    (too_many_spares, codes "TooManySpares") ∷
+    (70, codes "WideProgram") ∷
+    (71, codes "ManyBranches") ∷
+    (72, codes "BitsLength") ∷
+    (73, codes "TooManySpares") ∷
     []
 
 abbrev pub refusal_name : ℕ → List ℕ

@@ -1,10 +1,10 @@
 //! Why a run gives no result.
 
 ghost use Rattle.std.specs.Prelude.{◌≡◌, IfOk, codes};
-ghost use Rattle.serde_json.specs.Data.{Members, object, put, string};
+ghost use Rattle.serde_json.specs.Data.{Members, no_members, object, put, string};
 ghost use Rattle.serde_json.specs.View.{view};
 ghost use Rattle.exit_status.specs.Statuses.{status_with};
-ghost use Rattle.route_report.specs.Faults.{fault_data, outside_data, side_word, status_of};
+ghost use Rattle.route_report.specs.Faults.{fault_data, row_data, side_word, status_of};
 
 use crate::compact::with_member;
 use crate::refusals::{
@@ -211,7 +211,7 @@ pub(crate) fn fault_value(alloc: Global, fault: &Fault) -> Result<Value, AllocEr
 }
 
 fn outside_value(alloc: Global, name: &str, status: u8) -> Result<Value, AllocError>
-    ensures { IfOk result (λ v. view v ≡ outside_data name.now status) }
+    ensures { IfOk result (λ v. view v ≡ row_data (name.now, status, no_members)) }
 {
     json!(in alloc; {"fault": name, "status": status})
 }

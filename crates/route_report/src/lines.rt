@@ -4,8 +4,8 @@ ghost use Rattle.std.specs.Prelude.{◌≡◌, IfOk, codes};
 ghost use Rattle.serde_json.specs.View.{view};
 ghost use Rattle.serde_json.specs.Data.{Members, member, object, put};
 ghost use Rattle.route_report.specs.Compact.{json_whole, wholes};
-ghost use Rattle.route_report.specs.Lines.{check_data, count_members, format_of, last_members, middle_members, with_cost};
-ghost use Rattle.route_report.specs.Unplaced.{unplaced_data};
+ghost use Rattle.route_report.specs.Lines.{check_data, format_of};
+ghost use Rattle.route_report.specs.Unplaced.{count_members, last_members, middle_members, unplaced_data, with_cost};
 
 use crate::compact::{number_array, power_array, with_member};
 use crate::wires::Wires;
