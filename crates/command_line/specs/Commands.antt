@@ -5,7 +5,7 @@
 --   subcommand name rules   the subcommand of this name, with its options
 --   qroute_command      the program: no help, and one of its subcommands, which has to be there
 --   is_given id rows    whether the flag `--ID` was matched
---   has_text id rows    whether a text was matched behind `--ID`
+--   has_option id rows    whether a text was matched behind `--ID`
 --   clashes_with_trace rows   `--trace` was matched, and one of the two flags that have no trace
 --   begins_twice rows   two of `--trivial`, `--initial` and `--tries` were matched
 --   number_of a b text  the number from a to b whose decimal digits the text is, none where there is none
@@ -84,8 +84,8 @@ qroute_command = record {
 abbrev pub is_given : Text → List Row → Bool
 is_given id rows = option_map_or (λ t. bytes_eq t (codes "true")) (first_of id rows) false
 
-abbrev pub has_text : Text → List Row → Bool
-has_text id rows = is_some (first_of id rows)
+abbrev pub has_option : Text → List Row → Bool
+has_option id rows = is_some (first_of id rows)
 
 -- a trace is of the whole program, as the router leaves it
 abbrev pub clashes_with_trace : List Row → Bool
@@ -93,8 +93,8 @@ clashes_with_trace rows = is_given (codes "trace") rows && (is_given (codes "kee
 
 -- the wires begin in one way
 abbrev pub begins_twice : List Row → Bool
-begins_twice rows = (is_given (codes "trivial") rows && (has_text (codes "initial") rows || has_text (codes "tries") rows))
-    || (has_text (codes "initial") rows && has_text (codes "tries") rows)
+begins_twice rows = (is_given (codes "trivial") rows && (has_option (codes "initial") rows || has_option (codes "tries") rows))
+    || (has_option (codes "initial") rows && has_option (codes "tries") rows)
 
 -- only the value of the digits can be this number, and its decimal digits have to be the text
 abbrev pub number_of : ℕ → ℕ → Text → Option ℕ
@@ -127,8 +127,8 @@ initial_of rows = option_and_then qubits_of (first_of (codes "initial") rows)
 
 abbrev pub begin_of : List Row → Option Begin
 begin_of rows = if is_given (codes "trivial") rows then Some Trivial
-    else (if has_text (codes "initial") rows then option_map Listed (initial_of rows)
-    else (if has_text (codes "tries") rows then option_map Tries (number_behind 1 256 (codes "tries") rows) else Some (Tries 1)))
+    else (if has_option (codes "initial") rows then option_map Listed (initial_of rows)
+    else (if has_option (codes "tries") rows then option_map Tries (number_behind 1 256 (codes "tries") rows) else Some (Tries 1)))
 
 abbrev pub route_of : List Row → Option Command
 route_of rows = if clashes_with_trace rows || begins_twice rows then None
@@ -138,12 +138,12 @@ route_of rows = if clashes_with_trace rows || begins_twice rows then None
 
 -- a program's barriers aren't kept beside spare wires
 abbrev pub opt_of : List Row → Option Command
-opt_of rows = if has_text (codes "spares") rows
+opt_of rows = if has_option (codes "spares") rows
     then (if is_given (codes "keep-barriers") rows then None else option_map OptWithSpares (number_behind 1 255 (codes "spares") rows))
     else Some (Opt (is_given (codes "keep-barriers") rows))
 
 abbrev pub stages_of : List Row → Option Command
-stages_of rows = if has_text (codes "spares") rows then option_map (λ m. Stages (Some m)) (number_behind 1 255 (codes "spares") rows)
+stages_of rows = if has_option (codes "spares") rows then option_map (λ m. Stages (Some m)) (number_behind 1 255 (codes "spares") rows)
     else Some (Stages None)
 
 abbrev pub bench_of : List Row → Option Command

@@ -13,7 +13,7 @@ ghost use Rattle.std.specs.Prelude.{◌≡◌, ◌==◌, ◌||◌, [], IfOk, IfS
 ghost use Rattle.std.specs.List.{IsDistinct, list_all};
 ghost use Rattle.clap.specs.Words.{app_of, first_of, found_of, kind_of, rows_of, rule_of};
 ghost use Rattle.clap.specs.declared.builder.Command.TheViews.{out-Command as fields_of};
-ghost use Rattle.command_line.specs.Commands.{IsAllowed, IsBeginAllowed, amplitude_of, begin_of, begins_twice, bench_of, bits_behind, bits_of, clashes_with_trace, command_of, flag, has_text, if_different, initial_of, is_bit, is_given, needed_option, number_behind, number_of, numbers_in, opt_of, optional, pieces, qroute_command, qubits_of, route_of, stages_of, subcommand_meaning, verify_of};
+ghost use Rattle.command_line.specs.Commands.{IsAllowed, IsBeginAllowed, amplitude_of, begin_of, begins_twice, bench_of, bits_behind, bits_of, clashes_with_trace, command_of, flag, has_option, if_different, initial_of, is_bit, is_given, needed_option, number_behind, number_of, numbers_in, opt_of, optional, pieces, qroute_command, qubits_of, route_of, stages_of, subcommand_meaning, verify_of};
 ghost use Rattle.command_line.specs.Subcommands.{amplitude_command, bench_command, check_command, checked_command, device_commands, entry_commands, opt_command, placed_command, plain_commands, root_command, route_command, stages_command, texts_command, traced_command, verify_command};
 
 use crate::bits::BitList;
@@ -235,8 +235,8 @@ fn clashes_with_trace(matches: &ArgMatches<'_>) -> bool
 }
 
 /// Whether a text is given behind an option.
-fn has_text(matches: &ArgMatches<'_>, id: &str) -> bool
-    ensures { result ≡ has_text id.now (rows_of (found_of matches.now)) }
+fn has_option(matches: &ArgMatches<'_>, id: &str) -> bool
+    ensures { result ≡ has_option id.now (rows_of (found_of matches.now)) }
 {
     matches.get_str(id).is_some()
 }
@@ -245,8 +245,9 @@ fn has_text(matches: &ArgMatches<'_>, id: &str) -> bool
 fn begins_twice(matches: &ArgMatches<'_>) -> bool
     ensures { result ≡ begins_twice (rows_of (found_of matches.now)) }
 {
-    (is_given(matches, "trivial") && (has_text(matches, "initial") || has_text(matches, "tries")))
-        || (has_text(matches, "initial") && has_text(matches, "tries"))
+    (is_given(matches, "trivial")
+        && (has_option(matches, "initial") || has_option(matches, "tries")))
+        || (has_option(matches, "initial") && has_option(matches, "tries"))
 }
 
 /// Whether what is asked for of `route` isn't to be had together.
@@ -310,13 +311,13 @@ fn begin_of(alloc: Global, matches: &ArgMatches<'_>) -> Result<Begin, WordsFault
     if is_given(matches, "trivial") {
         return Ok(Begin::Trivial);
     }
-    if has_text(matches, "initial") {
+    if has_option(matches, "initial") {
         return match initial_of(alloc, matches)? {
             None => Err(WordsFault::BadWords),
             Some(list) => Ok(Begin::Listed(list)),
         };
     }
-    if has_text(matches, "tries") {
+    if has_option(matches, "tries") {
         return match number_behind(matches, "tries", 1, 256) {
             None => Err(WordsFault::BadWords),
             Some(tries) => Ok(Begin::Tries(tries)),
@@ -379,7 +380,7 @@ fn opt_of(matches: &ArgMatches<'_>) -> Result<commands::Command, WordsFault>
     ensures allowed { IfOk result IsAllowed }
 {
     let kept = is_given(matches, "keep-barriers");
-    if !has_text(matches, "spares") {
+    if !has_option(matches, "spares") {
         return Ok(commands::Command::Opt {
             keep_barriers: kept,
         });
@@ -399,7 +400,7 @@ fn stages_of(matches: &ArgMatches<'_>) -> Result<commands::Command, WordsFault>
     ensures bad { IsErrOf result WordsFault.BadWords → stages_of (rows_of (found_of matches.now)) ≡ None }
     ensures allowed { IfOk result IsAllowed }
 {
-    if !has_text(matches, "spares") {
+    if !has_option(matches, "spares") {
         return Ok(commands::Command::Stages { spares: None });
     }
     match number_behind(matches, "spares", 1, 255) {
