@@ -42,9 +42,10 @@ CLAIMS = [
     ),
     Claim(
         "headline",
-        "the headline alone: both of these, the reads, parts and the report line",
-        {"qroute_top.specs.Delivered": "Makes", "circuit_target.specs.InParts": "told_parts"},
+        "the headline alone: both of these, the reads and the report line",
+        {"qroute_top.specs.Delivered": "Makes"},
     ),
+    Claim("parts", "that it is so part by part, where barriers are kept", {"circuit_target.specs.InParts": "AreMade told_parts"}),
     Claim("settled", "that what `opt` writes is settled", {"routed_parts.specs.Settled": "IsSettled"}),
     Claim(
         "edges",

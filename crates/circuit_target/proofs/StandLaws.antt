@@ -4,11 +4,11 @@
 --   AreRouted-parts        the runs of which they are left
 --   cut-targets            the target's parts
 --   IsPutTogether          what is known of a source and of the parts that are written for it
---   StandsFor-put_together, Stands-still, Stands-legs   then the target stands for the source
+--   StandsFor-put_together, AreMade-put_together, Stands-still, Stands-legs   then the target stands for the source
 use Rattle.std.proofs.Common.{◌≡◌, inl, inr, ℕ, ◌+◌, ◌*◌, ◌%◌, ◌<◌, ◌≤◌, Bool, false, List, ◌∷◌, None, All, length, map, refl, sym, ap, ◌∙◌, subst, [], arith}
 use Rattle.std.specs.Prelude.{Option, sum_by}
 use Rattle.std.specs.List.{AllByRecursion, AllZip}
-use Rattle.std.proofs.lemmas.List.{length-map}
+use Rattle.std.proofs.lemmas.List.{append-nil, length-map}
 use Rattle.std.proofs.lemmas.List.Sums.{sum_by-cons}
 use Rattle.std.proofs.lemmas.List.Elements.{All-from_recursion, recursion_from_All}
 use Rattle.circuit_list.specs.declared.Gate.{Gate}
@@ -33,13 +33,14 @@ use Rattle.sabre_route.specs.declared.router.Routed.{Routed}
 use Rattle.wire_starts.specs.declared.Starts.{Starts}
 use Rattle.wire_starts.specs.declared.Starts.TheVariants.{Given, Tries}
 use Rattle.unitary_model.specs.declared.Op.{Op}
-use Rattle.unitary_model.specs.Operations.{IsPlain, cx_count}
+use Rattle.unitary_model.specs.OddPaths.{odd_paths}
+use Rattle.unitary_model.specs.Operations.{IsPlain, cx_count, t_count}
 use Rattle.unitary_model.specs.Placement.{identity}
 use Rattle.unitary_model.specs.Realises.{Realises}
 use Rattle.unitary_model.proofs.RealisesLaws.{Realises_same}
 use Rattle.routed_parts.specs.Costs.{cx_cost, told_cost}
 use Rattle.circuit_target.specs.Standing.{IsInPlace, IsOnQubits, IsOwnTrace, StandsFor, placed_read}
-use Rattle.circuit_target.specs.InParts.{HasFewTs}
+use Rattle.circuit_target.specs.InParts.{AreMade, HasFewTs}
 use Rattle.circuit_target.specs.Targets.{Stands, target_program, IsOptimised, IsTold}
 use Rattle.circuit_target.specs.Trying.{HasFirst}
 use Rattle.circuit_target.specs.Making.{AreRoutedParts, AreWritten, IsAssembled, IsPlacedPart, IsRoutedPart, part_gates, last_of, part_of, parts_of}
@@ -199,8 +200,20 @@ pub targets-target : (s : Program) (ms : List PartTarget) (t : Target) → lengt
     → targets (parts_of s.cut.parts ms) ≡ ops t.body.gates
 targets-target s ms t many gates = targets-gates s ms t.body.gates many gates
 
+-- one part has all T gates
+same-first : (x y : List Op) → x ∷ [] ≡ y ∷ [] → x ≡ y
+same-first x y e = cc
+
+few-whole : (n : ℕ) (parts : List Part) (us : List Op) → map (λ (p : Part). p.source) parts ≡ us ∷ [] → AllByRecursion (HasFewTs n) parts
+    → t_count (targets parts) ≤ odd_paths n us
+few-whole n [] us e h = cc
+few-whole n (p ∷ []) us e h =
+    subst (λ vs. t_count vs ≤ odd_paths n us) (sym (append-nil p.target))
+    (subst (λ vs. t_count p.target ≤ odd_paths n vs) (same-first p.source us e) h.0)
+few-whole n (p ∷ q ∷ parts) us e h = cc
+
 pub StandsFor-put_together : (keep : Bool) (s : Program) (ms : List PartTarget) (t : Target) (told : Report) → IsPutTogether keep s ms t → IsTold t told
-    → StandsFor s (target_program s t) (parts_of s.cut.parts ms) told
+    → StandsFor s (target_program s t) told
 StandsFor-put_together keep s ms t told is r =
     let parts = parts_of s.cut.parts ms in
     let a = is.assembled in
@@ -214,16 +227,24 @@ StandsFor-put_together keep s ms t told is r =
       unitary = rw (sources-source s ms is.many is.whole_source, targets-target s ms t is.many a.gates, sym last, sym phase) at all;
       reads = ap (λ p. map (placed_read p) s.reads) (sym r.last);
       cx_gates = subst (λ k. cx_count (ops t.body.gates) ≤ cx_count s.ops + 3 * k) (sym r.swaps) is.cx_gates;
-      made = record {
-        of_source = parts-sources s.cut.parts ms is.many;
-        of_target = parts-targets s.cut.parts ms is.many ∙ sym (cut-targets ms t.lengths.items (ops t.body.gates) a.lengths (ap ops a.gates));
-        bars = a.bars;
-        realised = realised;
-        whole_source = sources-source s ms is.many is.whole_source;
-        whole_target = targets-target s ms t is.many a.gates;
-      };
-      last = last;
-      phase = phase;
+      t_gates = λ one. subst (λ us. t_count us ≤ odd_paths s.wires s.ops) (targets-target s ms t is.many a.gates)
+          (few-whole s.wires parts s.ops (parts-sources s.cut.parts ms is.many ∙ one) is.t_gates);
+    }
+
+pub AreMade-put_together : (keep : Bool) (s : Program) (ms : List PartTarget) (t : Target) (told : Report) → IsPutTogether keep s ms t → IsTold t told
+    → AreMade s (target_program s t) (parts_of s.cut.parts ms) told
+AreMade-put_together keep s ms t told is r =
+    let parts = parts_of s.cut.parts ms in
+    let a = is.assembled in
+    record {
+      of_source = parts-sources s.cut.parts ms is.many;
+      of_target = parts-targets s.cut.parts ms is.many ∙ sym (cut-targets ms t.lengths.items (ops t.body.gates) a.lengths (ap ops a.gates));
+      bars = a.bars;
+      realised = subst (λ p. AreRealised s.wires t.body.wires p parts) (sym r.initial) is.realised;
+      whole_source = sources-source s ms is.many is.whole_source;
+      whole_target = targets-target s ms t is.many a.gates;
+      last = r.last ∙ is.ends ∙ ap (λ p. last_of p ms) (sym r.initial) ∙ sym (parts-ends s.cut.parts ms told.initial is.many);
+      phase = r.phase ∙ a.turn ∙ ap (λ k. k % 8) (sym (parts-powers s.cut.parts ms is.many));
       t_gates = is.t_gates;
     }
 
@@ -233,6 +254,7 @@ pub Stands-still : (keep : Bool) (s : Program) (ms : List PartTarget) (t : Targe
 Stands-still keep s ms t is still wires swaps initial last cost trace alone = record {
   parts = parts_of s.cut.parts ms;
   stands = λ told r. StandsFor-put_together keep s ms t told is r;
+  made = λ told r. AreMade-put_together keep s ms t told is r;
   placed = λ told r. record {
     wires = wires;
     swaps = r.swaps ∙ swaps;
@@ -266,6 +288,7 @@ Stands-legs keep traced clean starts d s ms lists rs t is legs wires swaps taken
     record {
       parts = parts;
       stands = λ told r. StandsFor-put_together keep s ms t told is r;
+      made = λ told r. AreMade-put_together keep s ms t told is r;
       placed = λ told r. record {
         qubits = wires;
         edges = subst (FollowsEdges d.edges) targets_are (FollowsEdges-legs d clean s.wires t.initial parts lists rs legs);

@@ -1,30 +1,29 @@
 -- When a target stands for a source, on its own wires or on the qubits of a device.
 --   claim_of p q                the claim that the operations of the program q realise those of the program p
 --   placed_read p r             the qubit at which the wire of a read stands by p
---   StandsFor source target parts r   the target is the source, up to the reported power of w and the reported
---                               placements, as a whole and part by part
+--   StandsFor source target r   the target is the source, up to the reported power of w and the reported placements
 --   IsOwnTrace traced source target told trace   where a trace is asked for, it proves that the target realises the
 --                               source, from and to the reported placements and up to the reported power; else it is
 --                               empty
 --   IsInPlace source ..         no wire moves, and each part is settled
 --   IsOnQubits device starts ..   the qubits are the device's, and what is written is what is left of the routing
 --                               machine's run, from a given placement on or the best of so many tries
-use Rattle.std.specs.Prelude.{◌≡◌, ℕ, ◌+◌, ◌*◌, ◌%◌, ◌≤◌, Bool, true, false, List, Option, None, All, map, option_map, slice_index, sum_by, []}
+use Rattle.std.specs.Prelude.{◌≡◌, ℕ, ◌+◌, ◌*◌, ◌≤◌, Bool, true, false, List, ◌∷◌, Option, None, All, map, option_map, slice_index, sum_by, []}
 use Rattle.std.specs.List.{AllByRecursion}
 use Rattle.coupling_map.specs.Coupling.{Coupling}
 use Rattle.coupling_map.specs.Edges.{FollowsEdges}
 use Rattle.gate_inline.specs.Programs.{Program}
-use Rattle.program_parts.specs.Parts.{Part, ends, powers}
+use Rattle.program_parts.specs.Parts.{Part}
 use Rattle.route_report.specs.declared.lines.Report.{Report}
 use Rattle.routed_parts.specs.Runs.{AreMachineRuns, HasFewSwaps}
 use Rattle.routed_parts.specs.Settled.{IsSettled}
 use Rattle.trace_model.specs.Proves.{Claim, Proves}
-use Rattle.unitary_model.specs.Operations.{IsPlain, cx_count}
+use Rattle.unitary_model.specs.OddPaths.{odd_paths}
+use Rattle.unitary_model.specs.Operations.{IsPlain, cx_count, t_count}
 use Rattle.unitary_model.specs.Placement.{identity}
 use Rattle.unitary_model.specs.Realises.{Realises}
 use Rattle.wire_starts.specs.declared.Starts.{Starts}
 use Rattle.routed_parts.specs.Costs.{told_cost}
-use Rattle.circuit_target.specs.InParts.{AreMade, HasFewTs}
 
 abbrev pub claim_of : Program → Program → Claim
 claim_of p q = record { source = p.ops; wires = p.wires; target = q.ops; qubits = q.wires }
@@ -32,7 +31,7 @@ claim_of p q = record { source = p.ops; wires = p.wires; target = q.ops; qubits 
 abbrev pub placed_read : List ℕ → Option ℕ → Option ℕ
 placed_read p r = option_map (slice_index p) r
 
-pub record StandsFor (source target : Program) (parts : List Part) (told : Report) : Type 0 where
+pub record StandsFor (source target : Program) (told : Report) : Type 0 where
   -- it has the same classical registers and plain operations
   pub registers : target.registers ≡ source.registers
   pub plain : All IsPlain target.ops
@@ -43,11 +42,8 @@ pub record StandsFor (source target : Program) (parts : List Part) (told : Repor
   pub reads : target.reads ≡ map (placed_read told.last) source.reads
   -- no more CNOTs but three a swap
   pub cx_gates : cx_count target.ops ≤ cx_count source.ops + 3 * told.swaps
-  -- so it is part by part, with powers that add up, and no part has more T gates than its source has odd path parities
-  pub made : AreMade source target told.initial parts
-  pub last : told.last ≡ ends told.initial parts
-  pub phase : told.phase ≡ powers parts % 8
-  pub t_gates : AllByRecursion (HasFewTs source.wires) parts
+  -- a source that is one part has no fewer odd path parities than the target has T gates
+  pub t_gates : source.cut.parts ≡ source.ops ∷ [] → t_count target.ops ≤ odd_paths source.wires source.ops
 
 abbrev pub IsOwnTrace : Bool → Program → Program → Report → List ℕ → Type 0
 IsOwnTrace true source target told trace = Proves (claim_of source target) trace told.initial told.last told.phase

@@ -23,7 +23,7 @@ use Rattle.unitary_model.specs.declared.Op.{Op}
 use Rattle.unitary_model.specs.OddPaths.{odd_paths}
 use Rattle.unitary_model.specs.Operations.{cx_count, t_count}
 use Rattle.unitary_model.specs.SameUpTo.{SameUpTo}
-use Rattle.circuit_target.specs.InParts.{told_parts}
+use Rattle.circuit_target.specs.InParts.{AreMade, told_parts}
 use Rattle.circuit_target.specs.Standing.{IsOwnTrace, StandsFor, placed_read}
 use Rattle.circuit_target.specs.declared.target.Target.{Target}
 
@@ -72,7 +72,8 @@ pub record IsFit (s : Program) (t : Target) : Type 0 where
 pub record Stands (s : Program) (keep traced : Bool) (IsPlaced : Program → List Part → Report → Type 0) (t : Target)
     : Type 0 where
   pub parts : List Part
-  pub stands : (told : Report) → IsTold t told → StandsFor s (target_program s t) parts told
+  pub stands : (told : Report) → IsTold t told → StandsFor s (target_program s t) told
+  pub made : (told : Report) → IsTold t told → AreMade s (target_program s t) parts told
   pub placed : (told : Report) → IsTold t told → IsPlaced (target_program s t) parts told
   pub tells : t.parts ≡ told_parts keep parts
   pub alone : t.spares ≡ None

@@ -50,6 +50,7 @@ Rewrites-planned s t keep traced IsPlaced text line is plan =
       parts = is.parts;
       told = plan.told;
       made = record { written = plan.written; report = plan.report; numbers = plan.numbers.numbers; stands = is.stands plan.told told };
+      in_parts = is.made plan.told told;
       tells = told.parts ∙ is.tells;
       alone = told.spares ∙ is.alone;
       trace = subst (λ v. IsOwnTrace traced s (target_program s t) plan.told v) (sym plan.trace) (is.trace plan.told told);

@@ -265,6 +265,7 @@ Delivers-routed words content c name begin traced keep clean old new p d n text 
       parts = made.parts;
       told = made.told;
       made = made.made;
+      in_parts = made.in_parts;
       tells = made.tells;
       alone = made.alone;
       trace = made.trace;
@@ -289,6 +290,7 @@ Delivers-drawn words content c start gates name old new p d n initial text line 
       parts = made.parts;
       told = made.told;
       made = made.made;
+      in_parts = made.in_parts;
       tells = made.tells;
       alone = made.alone;
       trace = made.trace;
@@ -867,6 +869,7 @@ answer_on content name (Bench start gates other) source x l wants answer =
         parts = answer.parts;
         told = answer.told;
         made = answer.made;
+        in_parts = answer.in_parts;
         tells = answer.tells;
         alone = answer.alone;
         trace = answer.trace;

@@ -1,9 +1,9 @@
 -- What is written and reported for a program that is read or drawn: the headline.
 --   Content                     what a shelf tells of each name: nothing, no text, or a text
 --   Reports source target r     the report's numbers are those of both programs
---   Makes source target parts r ..    the text and the report line are right for a source: they are those of a target that stands for it
---   Rewrites source keep traced P ..  there is such a target, with its trace; the line tells of its parts where barriers are kept;
---                               and of its parts, qubits, placements and edges P holds
+--   Makes source target r ..    the text and the report line are right for a source: they are those of a target that stands for it
+--   Rewrites source keep traced P ..  there is such a target, which is made part by part, with its trace; the line tells of its parts
+--                               where barriers are kept; and of its parts, qubits, placements and edges P holds
 --   starts_of begin size        where the runs begin on a device of this size: with `--trivial` each wire on the qubit of its own number;
 --                               at the list, completed by the qubits that are left, ascending; or at the best of so many tries
 --   IsOnDevice                  this P for `route`, and part of it for `bench`: the device is that of a name, and the list fits, if one is
@@ -48,7 +48,7 @@ use Rattle.qroute_top.specs.Claims.{IsVerified}
 use Rattle.qroute_top.specs.Devices.{Fits, IsDevice}
 use Rattle.qroute_top.specs.Questions.{IsEntryText, IsQuestionRefusal}
 use Rattle.qroute_top.specs.declared.stops.QuestionRefusal.{QuestionRefusal}
-use Rattle.circuit_target.specs.InParts.{told_parts}
+use Rattle.circuit_target.specs.InParts.{AreMade, told_parts}
 use Rattle.circuit_target.specs.Standing.{IsInPlace, IsOnQubits, IsOwnTrace, StandsFor}
 use Rattle.qroute_top.specs.WithSpares.{StandsWithSpares, ToldWithSpares}
 
@@ -64,20 +64,21 @@ pub record Reports (source target : Program) (r : Report) : Type 0 where
   pub t_after : r.t_after ≡ t_count target.ops
   pub t_before : r.t_before ≡ t_count source.ops
 
-pub record Makes (source target : Program) (parts : List Part) (told : Report) (text line : List ℕ) : Type 0 where
+pub record Makes (source target : Program) (told : Report) (text line : List ℕ) : Type 0 where
   -- the text is the target's
   pub written : IsWritten text target
   -- the line tells a report, whose numbers are those of both programs
   pub report : line ≡ report_line told
   pub numbers : Reports source target told
   -- and the target stands for the source
-  pub stands : StandsFor source target parts told
+  pub stands : StandsFor source target told
 
 pub record Rewrites (source : Program) (keep traced : Bool) (IsPlaced : Program → List Part → Report → Type 0) (text line : List ℕ) : Type 0 where
   pub target : Program
   pub parts : List Part
   pub told : Report
-  pub made : Makes source target parts told text line
+  pub made : Makes source target told text line
+  pub in_parts : AreMade source target parts told
   pub tells : told.parts ≡ told_parts keep parts
   pub alone : told.spares ≡ None
   pub trace : IsOwnTrace traced source target told (trace_of text)
