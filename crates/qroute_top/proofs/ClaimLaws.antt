@@ -39,7 +39,7 @@ use Rattle.trace_text.specs.Texts.{begins, begun, ended, lines_of, trace_of, tra
 use Rattle.qroute_top.specs.Stops.{IsAskedStop, IsReadAs, IsClaimStop, IsTextStop, IsTraceStop, IsTraceTextStop, IsUnreadText, device_stopped, unloaded_text}
 use Rattle.circuit_target.specs.Standing.{claim_of}
 use Rattle.qroute_top.specs.Causes.{IsClaimCause, IsDeviceCause, IsRefusedDevice, claim_status}
-use Rattle.qroute_top.specs.Claims.{Absent, AreContents, AreReadAlike, Bad, Edge, Ending, Found, Good, HasAskedDevice, HasTrace, IsAllAsked, IsBehind, IsChecked, IsCompared, IsEdgedAsAsked, IsEnding, IsJudged, IsPlacedAsAsked, IsReadAsAsked, IsTextRefused, IsComparedOn, IsVerified, Missing, Narrow, Placed, Proved, Reads, Refused, Finds, Stopped, ending_status, limit_of}
+use Rattle.qroute_top.specs.Claims.{AreContents, AreReadAlike, Bad, Ending, Finds, Found, Good, HasAskedDevice, HasTrace, IsAllAsked, IsBehind, IsChecked, IsCompared, IsComparedOn, IsEdgedAsAsked, IsEnding, IsJudged, IsPlacedAsAsked, IsReadAsAsked, IsTextRefused, IsVerified, Missing, Proved, Stops, ending_status, limit_of}
 use Rattle.qroute_top.specs.Devices.{HasDevice, IsDevice, IsDeviceRefusal}
 use Rattle.qroute_top.specs.declared.stops.ClaimStop.{ClaimStop}
 use Rattle.qroute_top.specs.declared.stops.ClaimStop.TheVariants as claim
@@ -49,6 +49,7 @@ use Rattle.qroute_top.specs.declared.stops.DeviceStop.TheVariants as device_stop
 use Rattle.qroute_top.specs.declared.stops.Stop.{Stop}
 use Rattle.qroute_top.specs.declared.stops.Stop.TheVariants as stop
 use Rattle.qroute_top.proofs.DeviceLaws.{IsDevice-once, IsDevice-refused}
+use Rattle.qroute_top.proofs.StatusLaws.{claim_told}
 
 -- ---- a text that isn't had as a program
 pub IsTextStop-text : (s : Side) (content : Option (Option (List ℕ))) (before after : ℕ) (f : TextFault) (x : Stop)
@@ -136,7 +137,7 @@ IsClaimStop-source content v d before after (stop.Question r) had t calm = absur
 IsClaimStop-source content v d before after (stop.Claim claim.Failed) had t calm = t
 IsClaimStop-source content v d before after (stop.Claim claim.Absent) had t calm = ((d, had, (Missing, t, refl)), calm (λ e. cc))
 IsClaimStop-source content v d before after (stop.Claim (claim.Refused s r)) had t calm =
-    ((d, had, (Bad r, t.1, ap (λ y. Refused y r) t.0)), calm (λ e. cc))
+    ((d, had, (Bad r, t.1, ap (λ y. Stops (claim.Refused y r)) t.0)), calm (λ e. cc))
 IsClaimStop-source content v d before after (stop.Claim (claim.TooFewQubits size qubits)) had t calm = absurd t
 IsClaimStop-source content v d before after (stop.Claim (claim.Trace line)) had t calm = absurd t
 IsClaimStop-source content v d before after (stop.Claim claim.Placed) had t calm = absurd t
@@ -163,7 +164,7 @@ IsClaimStop-target content v d text p before after (stop.Claim claim.Failed) b t
 IsClaimStop-target content v d text p before after (stop.Claim claim.Absent) b t calm =
     ((d, b.had, (Good text p, b.told, (Missing, t, refl))), calm (λ e. cc))
 IsClaimStop-target content v d text p before after (stop.Claim (claim.Refused s r)) b t calm =
-    ((d, b.had, (Good text p, b.told, (Bad r, t.1, ap (λ y. Refused y r) t.0))), calm (λ e. cc))
+    ((d, b.had, (Good text p, b.told, (Bad r, t.1, ap (λ y. Stops (claim.Refused y r)) t.0))), calm (λ e. cc))
 IsClaimStop-target content v d text p before after (stop.Claim (claim.TooFewQubits size qubits)) b t calm = absurd t
 IsClaimStop-target content v d text p before after (stop.Claim (claim.Trace line)) b t calm = absurd t
 IsClaimStop-target content v d text p before after (stop.Claim claim.Placed) b t calm = absurd t
@@ -189,8 +190,8 @@ pub IsClaimStop-room : (content : Content) (v : Verifying) (d : Option Coupling)
 IsClaimStop-room content v d text other p q before after x m h steady =
     let here = some_there d (λ c. (c.size < q.wires) × (x ≡ stop.Claim (claim.TooFewQubits c.size q.wires))) h in
     let c : Coupling = here.0 in
-    let e : IsEnding content v (Narrow c.size q.wires) =
-    ending-met content v d text other p q (Narrow c.size q.wires) m (c, here.1, refl, refl, here.2.0) in
+    let e : IsEnding content v (Stops (claim.TooFewQubits c.size q.wires)) =
+    ending-met content v d text other p q (Stops (claim.TooFewQubits c.size q.wires)) m (c, here.1, refl, refl, here.2.0) in
     subst (λ s. IsClaimStop content v before after s) (sym here.2.1) (e, steady)
 
 -- the trace's text, which is loaded last
@@ -236,12 +237,12 @@ IsClaimStop-text content v d text other p q before after (stop.Question r) m roo
 IsClaimStop-text content v d text other p q before after (stop.Claim claim.Failed) m room t calm = t
 IsClaimStop-text content v d text other p q before after (stop.Claim claim.Absent) m room t calm =
     let here = some_there v.trace (λ n. HasNoText (content n)) t in
-    (ending-met content v d text other p q Absent m (room, (here.0, here.1, here.2)), calm (λ e. cc))
+    (ending-met content v d text other p q (Stops claim.Absent) m (room, (here.0, here.1, here.2)), calm (λ e. cc))
 IsClaimStop-text content v d text other p q before after (stop.Claim (claim.Refused s r)) m room t calm =
     let here = some_there v.trace
     (λ n. (u : List ℕ) × TellsText (content n) u × (limit_of side.Trace < length u) × (s ≡ side.Trace) × (r ≡ TooLong)) t in
     let h = here.2 in
-    (ending-met content v d text other p q (Refused s r) m (room, (here.0, h.0, here.1, h.1, h.2, h.3, h.4)), calm (λ e. cc))
+    (ending-met content v d text other p q (Stops (claim.Refused s r)) m (room, (here.0, h.0, here.1, h.1, h.2, h.3, h.4)), calm (λ e. cc))
 IsClaimStop-text content v d text other p q before after (stop.Claim (claim.TooFewQubits size qubits)) m room t calm = absurd t
 IsClaimStop-text content v d text other p q before after (stop.Claim (claim.Trace line)) m room t calm = absurd t
 IsClaimStop-text content v d text other p q before after (stop.Claim claim.Placed) m room t calm = absurd t
@@ -265,7 +266,7 @@ IsClaimStop-trace content v d text other p q trace before after (stop.Claim clai
 IsClaimStop-trace content v d text other p q trace before after (stop.Claim (claim.Refused s r)) m room has t steady = absurd t
 IsClaimStop-trace content v d text other p q trace before after (stop.Claim (claim.TooFewQubits size qubits)) m room has t steady = absurd t
 IsClaimStop-trace content v d text other p q trace before after (stop.Claim (claim.Trace line)) m room has t steady =
-    (ending-met content v d text other p q (Stopped line) m (room, (trace, has, t)), steady)
+    (ending-met content v d text other p q (Stops (claim.Trace line)) m (room, (trace, has, t)), steady)
 IsClaimStop-trace content v d text other p q trace before after (stop.Claim claim.Placed) m room has t steady = absurd t
 IsClaimStop-trace content v d text other p q trace before after (stop.Claim claim.Reads) m room has t steady = absurd t
 IsClaimStop-trace content v d text other p q trace before after (stop.Claim (claim.Edge n)) m room has t steady = absurd t
@@ -281,11 +282,11 @@ IsClaimStop-asked content v d text other p q trace first last phase before after
 IsClaimStop-asked content v d text other p q trace first last phase before after (claim.TooFewQubits size qubits) m room has proves t steady = absurd t
 IsClaimStop-asked content v d text other p q trace first last phase before after (claim.Trace line) m room has proves t steady = absurd t
 IsClaimStop-asked content v d text other p q trace first last phase before after claim.Placed m room has proves t steady =
-    (ending-met content v d text other p q Placed m (room, (trace, has, (first, last, phase, proves, t))), steady)
+    (ending-met content v d text other p q (Stops claim.Placed) m (room, (trace, has, (first, last, phase, proves, t))), steady)
 IsClaimStop-asked content v d text other p q trace first last phase before after claim.Reads m room has proves t steady =
-    (ending-met content v d text other p q Reads m (room, (trace, has, (first, last, phase, proves, t))), steady)
+    (ending-met content v d text other p q (Stops claim.Reads) m (room, (trace, has, (first, last, phase, proves, t))), steady)
 IsClaimStop-asked content v d text other p q trace first last phase before after (claim.Edge n) m room has proves t steady =
-    (ending-met content v d text other p q (Edge n) m (room, (trace, has, (first, last, phase, proves, t))), steady)
+    (ending-met content v d text other p q (Stops (claim.Edge n)) m (room, (trace, has, (first, last, phase, proves, t))), steady)
 
 pub ruleset texts = (IsTextStop-text, IsTextStop-read)
 
@@ -461,21 +462,22 @@ one_first es us m n a b = go (order a.place b.place)
 -- ---- one ending, by what is so
 -- of what is asked
 abbrev CheckedAs : Verifying → Option Coupling → Program → Program → List ℕ → List ℕ → ℕ → Ending → Type 0
-CheckedAs v d p q first last phase x = ((x ≡ Placed) × (IsPlacedAsAsked v first last → ⊥))
-    ⊎ (((x ≡ Reads) × IsPlacedAsAsked v first last × (IsReadAsAsked v p q last → ⊥))
-    ⊎ (((n : ℕ) × (x ≡ Edge n) × IsPlacedAsAsked v first last × IsReadAsAsked v p q last
+CheckedAs v d p q first last phase x = ((x ≡ Stops claim.Placed) × (IsPlacedAsAsked v first last → ⊥))
+    ⊎ (((x ≡ Stops claim.Reads) × IsPlacedAsAsked v first last × (IsReadAsAsked v p q last → ⊥))
+    ⊎ (((n : ℕ) × (x ≡ Stops (claim.Edge n)) × IsPlacedAsAsked v first last × IsReadAsAsked v p q last
     × ((c : Coupling) × (d ≡ Some c) × IsFirstOff c.edges q.ops n))
     ⊎ ((x ≡ Proved first last phase) × IsAllAsked v d p q first last)))
 
 checked_as : (v : Verifying) (d : Option Coupling) (p q : Program) (first last : List ℕ) (phase : ℕ) (x : Ending)
     → IsChecked v d p q first last phase x → CheckedAs v d p q first last phase x
-checked_as v d p q first last phase Absent h = absurd h
-checked_as v d p q first last phase (Refused s r) h = absurd h
-checked_as v d p q first last phase (Narrow size qubits) h = absurd h
-checked_as v d p q first last phase (Stopped line) h = absurd h
-checked_as v d p q first last phase Placed h = inl (refl, h)
-checked_as v d p q first last phase Reads h = inr (inl (refl, h.0, h.1))
-checked_as v d p q first last phase (Edge n) h = inr (inr (inl (n, refl, h.0, h.1, h.2)))
+checked_as v d p q first last phase (Stops claim.Failed) h = absurd h
+checked_as v d p q first last phase (Stops claim.Absent) h = absurd h
+checked_as v d p q first last phase (Stops (claim.Refused s r)) h = absurd h
+checked_as v d p q first last phase (Stops (claim.TooFewQubits size qubits)) h = absurd h
+checked_as v d p q first last phase (Stops (claim.Trace line)) h = absurd h
+checked_as v d p q first last phase (Stops claim.Placed) h = inl (refl, h)
+checked_as v d p q first last phase (Stops claim.Reads) h = inr (inl (refl, h.0, h.1))
+checked_as v d p q first last phase (Stops (claim.Edge n)) h = inr (inr (inl (n, refl, h.0, h.1, h.2)))
 checked_as v d p q first last phase (Proved f l j) h =
     inr (inr (inr (ap (λ w. Proved w l j) h.1 ∙ (ap (λ w. Proved first w j) h.2 ∙ ap (λ w. Proved first last w) h.3), h.0)))
 
@@ -504,7 +506,7 @@ checked_once v d p q first last phase x y (inr (inl (e, holds, fails))) (inr (in
 checked_once v d p q first last phase x y (inr (inr (inl (m, e, placed, read, off)))) (inl (f, never)) = absurd (never placed)
 checked_once v d p q first last phase x y (inr (inr (inl (m, e, placed, read, off)))) (inr (inl (f, holds, never))) = absurd (never read)
 checked_once v d p q first last phase x y (inr (inr (inl (m, e, placed, read, off)))) (inr (inr (inl (n, f, holds, too, other)))) =
-    e ∙ (ap (λ w. Edge w) (one_off d q m n off other) ∙ sym f)
+    e ∙ (ap (λ w. Stops (claim.Edge w)) (one_off d q m n off other) ∙ sym f)
 checked_once v d p q first last phase x y (inr (inr (inl (m, e, placed, read, off)))) (inr (inr (inr (f, all)))) =
     absurd (off_or_all v d p q first last m off all)
 checked_once v d p q first last phase x y (inr (inr (inr (e, all)))) (inl (f, never)) = absurd (never all.placed)
@@ -515,22 +517,23 @@ checked_once v d p q first last phase x y (inr (inr (inr (e, all)))) (inr (inr (
 
 -- of the trace
 abbrev JudgedAs : Verifying → Option Coupling → Program → Program → List ℕ → Ending → Type 0
-JudgedAs v d p q trace x = ((line : ℕ) × StopsAt (claim_of p q) trace line × (x ≡ Stopped line))
+JudgedAs v d p q trace x = ((line : ℕ) × StopsAt (claim_of p q) trace line × (x ≡ Stops (claim.Trace line)))
     ⊎ ((first : List ℕ) × (last : List ℕ) × (phase : ℕ) × Proves (claim_of p q) trace first last phase × CheckedAs v d p q first last phase x)
 
 judged_as : (v : Verifying) (d : Option Coupling) (p q : Program) (trace : List ℕ) (x : Ending) → IsJudged v d p q trace x → JudgedAs v d p q trace x
-judged_as v d p q trace (Stopped line) h = inl (line, h, refl)
-judged_as v d p q trace Absent h = inr (h.0, h.1, h.2, h.3, checked_as v d p q h.0 h.1 h.2 Absent h.4)
-judged_as v d p q trace (Refused s r) h = inr (h.0, h.1, h.2, h.3, checked_as v d p q h.0 h.1 h.2 (Refused s r) h.4)
-judged_as v d p q trace (Narrow size qubits) h = inr (h.0, h.1, h.2, h.3, checked_as v d p q h.0 h.1 h.2 (Narrow size qubits) h.4)
-judged_as v d p q trace Placed h = inr (h.0, h.1, h.2, h.3, checked_as v d p q h.0 h.1 h.2 Placed h.4)
-judged_as v d p q trace Reads h = inr (h.0, h.1, h.2, h.3, checked_as v d p q h.0 h.1 h.2 Reads h.4)
-judged_as v d p q trace (Edge n) h = inr (h.0, h.1, h.2, h.3, checked_as v d p q h.0 h.1 h.2 (Edge n) h.4)
+judged_as v d p q trace (Stops (claim.Trace line)) h = inl (line, h, refl)
+judged_as v d p q trace (Stops claim.Failed) h = inr (h.0, h.1, h.2, h.3, checked_as v d p q h.0 h.1 h.2 (Stops claim.Failed) h.4)
+judged_as v d p q trace (Stops claim.Absent) h = inr (h.0, h.1, h.2, h.3, checked_as v d p q h.0 h.1 h.2 (Stops claim.Absent) h.4)
+judged_as v d p q trace (Stops (claim.Refused s r)) h = inr (h.0, h.1, h.2, h.3, checked_as v d p q h.0 h.1 h.2 (Stops (claim.Refused s r)) h.4)
+judged_as v d p q trace (Stops (claim.TooFewQubits size qubits)) h = inr (h.0, h.1, h.2, h.3, checked_as v d p q h.0 h.1 h.2 (Stops (claim.TooFewQubits size qubits)) h.4)
+judged_as v d p q trace (Stops claim.Placed) h = inr (h.0, h.1, h.2, h.3, checked_as v d p q h.0 h.1 h.2 (Stops claim.Placed) h.4)
+judged_as v d p q trace (Stops claim.Reads) h = inr (h.0, h.1, h.2, h.3, checked_as v d p q h.0 h.1 h.2 (Stops claim.Reads) h.4)
+judged_as v d p q trace (Stops (claim.Edge n)) h = inr (h.0, h.1, h.2, h.3, checked_as v d p q h.0 h.1 h.2 (Stops (claim.Edge n)) h.4)
 judged_as v d p q trace (Proved f l j) h = inr (h.0, h.1, h.2, h.3, checked_as v d p q h.0 h.1 h.2 (Proved f l j) h.4)
 
 judged_once : Traceable → (v : Verifying) (d : Option Coupling) (p q : Program) (trace : List ℕ) (x y : Ending) → JudgedAs v d p q trace x
     → JudgedAs v d p q trace y → x ≡ y
-judged_once law v d p q trace x y (inl (m, a, e)) (inl (n, b, f)) = e ∙ (ap (λ w. Stopped w) (law.one_line (claim_of p q) trace m n a b) ∙ sym f)
+judged_once law v d p q trace x y (inl (m, a, e)) (inl (n, b, f)) = e ∙ (ap (λ w. Stops (claim.Trace w)) (law.one_line (claim_of p q) trace m n a b) ∙ sym f)
 judged_once law v d p q trace x y (inl (m, a, e)) (inr (f, l, j, b, c)) = absurd (law.not_both (claim_of p q) trace m f l j a b)
 judged_once law v d p q trace x y (inr (f, l, j, a, c)) (inl (n, b, e)) = absurd (law.not_both (claim_of p q) trace n f l j b a)
 judged_once law v d p q trace x y (inr (f, l, j, a, c)) (inr (g, m, k, b, e)) =
@@ -541,17 +544,17 @@ judged_once law v d p q trace x y (inr (f, l, j, a, c)) (inr (g, m, k, b, e)) =
 -- of the trace's text
 abbrev TextAs : Content → Option (List ℕ) → List ℕ → (List ℕ → Ending → Type 0) → Ending → Type 0
 TextAs content None text J x = J (trace_of text) x
-TextAs content (Some name) text J x = (HasNoText (content name) × (x ≡ Absent))
-    ⊎ (((other : List ℕ) × TellsText (content name) other × (limit_of side.Trace < length other) × (x ≡ Refused side.Trace TooLong))
+TextAs content (Some name) text J x = (HasNoText (content name) × (x ≡ Stops claim.Absent))
+    ⊎ (((other : List ℕ) × TellsText (content name) other × (limit_of side.Trace < length other) × (x ≡ Stops (claim.Refused side.Trace TooLong)))
     ⊎ ((trace : List ℕ) × TellsText (content name) trace × (length trace ≤ limit_of side.Trace) × J trace x))
 
 text_missing : (content : Content) (o : Option (List ℕ)) (text : List ℕ) (J : List ℕ → Ending → Type 0) (name : List ℕ) (x : Ending) → o ≡ Some name
-    → HasNoText (content name) → x ≡ Absent → TextAs content o text J x
+    → HasNoText (content name) → x ≡ Stops claim.Absent → TextAs content o text J x
 text_missing content None text J name x e h is = cc
 text_missing content (Some n) text J name x e h is = inl (subst (λ w. HasNoText (content w)) (sym (same_some n name e)) h, is)
 
 text_long : (content : Content) (o : Option (List ℕ)) (text : List ℕ) (J : List ℕ → Ending → Type 0) (name other : List ℕ) (x : Ending) → o ≡ Some name
-    → TellsText (content name) other → limit_of side.Trace < length other → x ≡ Refused side.Trace TooLong → TextAs content o text J x
+    → TellsText (content name) other → limit_of side.Trace < length other → x ≡ Stops (claim.Refused side.Trace TooLong) → TextAs content o text J x
 text_long content None text J name other x e h long is = cc
 text_long content (Some n) text J name other x e h long is =
     inr (inl (other, subst (λ w. TellsText (content w) other) (sym (same_some n name e)) h, long, is))
@@ -600,29 +603,31 @@ text_once content (Some n) text J once told x y (inr (inr (t, a, short, i))) (in
 
 -- of the room
 abbrev TracedAs : Content → Verifying → Option Coupling → Program → List ℕ → Program → Ending → Type 0
-TracedAs content v d p text q x = ((c : Coupling) × (d ≡ Some c) × (x ≡ Narrow c.size q.wires) × (c.size < q.wires))
+TracedAs content v d p text q x = ((c : Coupling) × (d ≡ Some c) × (x ≡ Stops (claim.TooFewQubits c.size q.wires)) × (c.size < q.wires))
     ⊎ (HasRoom d q × TextAs content v.trace text (JudgedAs v d p q) x)
 
 traced_as : (content : Content) (v : Verifying) (d : Option Coupling) (p : Program) (text : List ℕ) (q : Program) (x : Ending)
     → IsComparedOn content v d p text q x → TracedAs content v d p text q x
-traced_as content v d p text q (Narrow size qubits) (c, e, s, k, less) =
-    inl (c, e, ap (λ w. Narrow w qubits) s ∙ ap (λ w. Narrow c.size w) k, omega (arith, s, k, less))
-traced_as content v d p text q Absent (room, (name, e, none)) =
-    inr (room, text_missing content v.trace text (JudgedAs v d p q) name Absent e none refl)
-traced_as content v d p text q (Refused s r) (room, (name, other, e, tells, long, a, b)) =
+traced_as content v d p text q (Stops (claim.TooFewQubits size qubits)) (c, e, s, k, less) =
+    inl (c, e, ap (λ w. Stops (claim.TooFewQubits w qubits)) s ∙ ap (λ w. Stops (claim.TooFewQubits c.size w)) k, omega (arith, s, k, less))
+traced_as content v d p text q (Stops claim.Absent) (room, (name, e, none)) =
+    inr (room, text_missing content v.trace text (JudgedAs v d p q) name (Stops claim.Absent) e none refl)
+traced_as content v d p text q (Stops (claim.Refused s r)) (room, (name, other, e, tells, long, a, b)) =
     inr (
       room,
-      text_long content v.trace text (JudgedAs v d p q) name other (Refused s r) e tells long
-          (ap (λ w. Refused w r) a ∙ ap (λ w. Refused side.Trace w) b),
+      text_long content v.trace text (JudgedAs v d p q) name other (Stops (claim.Refused s r)) e tells long
+          (ap (λ w. Stops (claim.Refused w r)) a ∙ ap (λ w. Stops (claim.Refused side.Trace w)) b),
     )
-traced_as content v d p text q (Stopped line) (room, (trace, has, j)) =
-    inr (room, text_had content v.trace text (JudgedAs v d p q) trace (Stopped line) has (judged_as v d p q trace (Stopped line) j))
-traced_as content v d p text q Placed (room, (trace, has, j)) =
-    inr (room, text_had content v.trace text (JudgedAs v d p q) trace Placed has (judged_as v d p q trace Placed j))
-traced_as content v d p text q Reads (room, (trace, has, j)) =
-    inr (room, text_had content v.trace text (JudgedAs v d p q) trace Reads has (judged_as v d p q trace Reads j))
-traced_as content v d p text q (Edge n) (room, (trace, has, j)) =
-    inr (room, text_had content v.trace text (JudgedAs v d p q) trace (Edge n) has (judged_as v d p q trace (Edge n) j))
+traced_as content v d p text q (Stops (claim.Trace line)) (room, (trace, has, j)) =
+    inr (room, text_had content v.trace text (JudgedAs v d p q) trace (Stops (claim.Trace line)) has (judged_as v d p q trace (Stops (claim.Trace line)) j))
+traced_as content v d p text q (Stops claim.Failed) (room, (trace, has, j)) =
+    inr (room, text_had content v.trace text (JudgedAs v d p q) trace (Stops claim.Failed) has (judged_as v d p q trace (Stops claim.Failed) j))
+traced_as content v d p text q (Stops claim.Placed) (room, (trace, has, j)) =
+    inr (room, text_had content v.trace text (JudgedAs v d p q) trace (Stops claim.Placed) has (judged_as v d p q trace (Stops claim.Placed) j))
+traced_as content v d p text q (Stops claim.Reads) (room, (trace, has, j)) =
+    inr (room, text_had content v.trace text (JudgedAs v d p q) trace (Stops claim.Reads) has (judged_as v d p q trace (Stops claim.Reads) j))
+traced_as content v d p text q (Stops (claim.Edge n)) (room, (trace, has, j)) =
+    inr (room, text_had content v.trace text (JudgedAs v d p q) trace (Stops (claim.Edge n)) has (judged_as v d p q trace (Stops (claim.Edge n)) j))
 traced_as content v d p text q (Proved f l k) (room, (trace, has, j)) =
     inr (room, text_had content v.trace text (JudgedAs v d p q) trace (Proved f l k) has (judged_as v d p q trace (Proved f l k) j))
 
@@ -634,7 +639,7 @@ traced_once : Traceable → (content : Content) (v : Verifying) (d : Option Coup
     → TracedAs content v d p text q x → TracedAs content v d p text q y → x ≡ y
 traced_once law content v d p text q x y told (inl (c, e, is, less)) (inl (f, g, too, few)) =
     let same : c ≡ f = same_some c f (sym e ∙ g) in
-    is ∙ (ap (λ (w : Coupling). Narrow w.size q.wires) same ∙ sym too)
+    is ∙ (ap (λ (w : Coupling). Stops (claim.TooFewQubits w.size q.wires)) same ∙ sym too)
 traced_once law content v d p text q x y told (inl (c, e, is, less)) (inr (room, h)) = absurd (narrow_or_room d q c e less room)
 traced_once law content v d p text q x y told (inr (room, h)) (inl (c, e, is, less)) = absurd (narrow_or_room d q c e less room)
 traced_once law content v d p text q x y told (inr (room, h)) (inr (too, k)) =
@@ -684,13 +689,13 @@ same_ending law traces content v x y told (d, had, (f, found, c)) (e, has, (g, t
 pub ended-claim : (content : Content) (v : Verifying) (before after : ℕ) (x : ClaimStop) → IsClaimCause content v before after x
     → (Rose before after → ⊥) → (y : Ending) × IsEnding content v y × (claim_status x ≡ ending_status y)
 ended-claim content v before after claim.Failed c calm = absurd (calm c)
-ended-claim content v before after claim.Absent c calm = (Absent, c.0, refl)
-ended-claim content v before after (claim.Refused s r) c calm = (Refused s r, c.0, refl)
-ended-claim content v before after (claim.TooFewQubits size qubits) c calm = (Narrow size qubits, c.0, refl)
-ended-claim content v before after (claim.Trace line) c calm = (Stopped line, c.0, refl)
-ended-claim content v before after claim.Placed c calm = (Placed, c.0, refl)
-ended-claim content v before after claim.Reads c calm = (Reads, c.0, refl)
-ended-claim content v before after (claim.Edge n) c calm = (Edge n, c.0, refl)
+ended-claim content v before after claim.Absent c calm = (Stops claim.Absent, c.0, sym (claim_told claim.Absent))
+ended-claim content v before after (claim.Refused s r) c calm = (Stops (claim.Refused s r), c.0, sym (claim_told (claim.Refused s r)))
+ended-claim content v before after (claim.TooFewQubits size qubits) c calm = (Stops (claim.TooFewQubits size qubits), c.0, sym (claim_told (claim.TooFewQubits size qubits)))
+ended-claim content v before after (claim.Trace line) c calm = (Stops (claim.Trace line), c.0, sym (claim_told (claim.Trace line)))
+ended-claim content v before after claim.Placed c calm = (Stops claim.Placed, c.0, sym (claim_told claim.Placed))
+ended-claim content v before after claim.Reads c calm = (Stops claim.Reads, c.0, sym (claim_told claim.Reads))
+ended-claim content v before after (claim.Edge n) c calm = (Stops (claim.Edge n), c.0, sym (claim_told (claim.Edge n)))
 
 -- a claim is judged only where the device, if one is asked for, is had
 pub claim-had : (content : Content) (v : Verifying) (before after : ℕ) (x : ClaimStop) → IsClaimCause content v before after x
@@ -782,19 +787,20 @@ there-trace content o u name h e = subst (λ w. HasTraceText content w u) e h
 traced_status : (content : Content) (v : Verifying) (d : Option Coupling) (p : Program) (text : List ℕ) (q : Program) (u : List ℕ) (n : ℕ) (x : Ending)
     → ((c : Coupling) → d ≡ Some c → n ≤ c.size) → q.wires ≤ n → HasTraceText content v.trace u → IsComparedOn content v d p text q x
     → (ending_status x ≡ 0) ⊎ (ending_status x ≡ 1)
-traced_status content v d p text q u n (Narrow size qubits) wide few has (c, e, s, k, less) =
+traced_status content v d p text q u n (Stops (claim.TooFewQubits size qubits)) wide few has (c, e, s, k, less) =
     let room = wide c e in absurd (omega (arith, room, few, s, k, less))
-traced_status content v d p text q u n Absent wide few has (room, (name, e, none)) =
+traced_status content v d p text q u n (Stops claim.Absent) wide few has (room, (name, e, none)) =
     absurd (no_text_here (content name) u (there-trace content v.trace u name has e).0 none)
-traced_status content v d p text q u n (Refused s r) wide few has (room, (name, other, e, tells, long, a, b)) =
+traced_status content v d p text q u n (Stops (claim.Refused s r)) wide few has (room, (name, other, e, tells, long, a, b)) =
     let there = there-trace content v.trace u name has e in
     let same : other ≡ u = this_text (content name) u other there.0 tells in
     let less : length other ≤ limit_of side.Trace = subst (λ w. length w ≤ limit_of side.Trace) (sym same) there.1 in
     absurd (omega (arith, long, less))
-traced_status content v d p text q u n (Stopped line) wide few has h = inr refl
-traced_status content v d p text q u n Placed wide few has h = inr refl
-traced_status content v d p text q u n Reads wide few has h = inr refl
-traced_status content v d p text q u n (Edge k) wide few has h = inr refl
+traced_status content v d p text q u n (Stops (claim.Trace line)) wide few has h = inr refl
+traced_status content v d p text q u n (Stops claim.Failed) wide few has (room, (trace, there, j)) = absurd j.4
+traced_status content v d p text q u n (Stops claim.Placed) wide few has h = inr refl
+traced_status content v d p text q u n (Stops claim.Reads) wide few has h = inr refl
+traced_status content v d p text q u n (Stops (claim.Edge k)) wide few has h = inr refl
 traced_status content v d p text q u n (Proved f l j) wide few has h = inl refl
 
 -- what is so where all texts are there, none is refused, and the device has room

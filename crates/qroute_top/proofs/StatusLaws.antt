@@ -28,7 +28,8 @@ use Rattle.route_report.specs.declared.faults.Side.{Side}
 use Rattle.route_report.specs.declared.faults.Fault.TheVariants as fault
 use Rattle.qasm_writer.specs.Outputs.{HasText}
 use Rattle.qasm_writer.specs.declared.output.Output.{Output}
-use Rattle.qroute_top.specs.Causes.{claim_fault, claim_status, device_fault, fault_of, is_early_fault, question_fault, refusal_fault, stop_status, text_fault}
+use Rattle.qroute_top.specs.Causes.{claim_status, fault_of, is_early_fault, stop_status}
+use Rattle.qroute_top.specs.Faults.{claim_fault, device_fault, question_fault, refusal_fault, text_fault}
 use Rattle.qroute_top.specs.declared.stops.ClaimStop.{ClaimStop}
 use Rattle.qroute_top.specs.declared.stops.ClaimStop.TheVariants as claim
 use Rattle.qroute_top.specs.declared.stops.DeviceRefusal.{DeviceRefusal}
@@ -73,7 +74,7 @@ text_status s (refusal.Depth place) = refl
 text_status s (refusal.Check r) = check_status r.refusal
 text_status s (refusal.Inline r) = inline_status r.refusal
 
-claim_told : (x : ClaimStop) → status_of (claim_fault x) ≡ claim_status x
+pub claim_told : (x : ClaimStop) → status_of (claim_fault x) ≡ claim_status x
 claim_told claim.Failed = refl
 claim_told claim.Absent = refl
 claim_told (claim.Refused s r) = text_status s r

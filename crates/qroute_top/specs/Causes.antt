@@ -9,8 +9,6 @@
 --   IsClaimCause content v before after x   why a claim isn't proved, or what is asked of its target besides isn't so
 --   IsCause h s           the stop s has its cause; want of memory is free
 --   IsSourceCause, IsDeviceCause   why the program isn't read, and why the device isn't had
---   refusal_fault, device_fault, question_fault   the fault that a refusal of the program, of the device, or of a question is
---                         told as;  text_fault, claim_fault: that of a text of `verify`, and of a stop of it
 --   fault_of s            the fault that a stop is told as
 --   EndsWithFault h n t   the program ends with status n for a stop that has its cause, and t holds of its fault
 --   stop_status s         the status that a stop ends with;  claim_status: that of a stop of `verify`
@@ -20,37 +18,30 @@ use Rattle.std.specs.Prelude.{◌≡◌, ℕ, Bool, true, ◌==◌, ◌||◌, Li
 use Rattle.outside_io.specs.Bytes.{Tells}
 use Rattle.outside_io.specs.Causes.{Rose}
 use Rattle.outside_io.specs.Shelf.{HasNoText, TellsText}
-use Rattle.coupling_map.specs.declared.faults.DeviceFault.TheVariants as device_fault_is
-use Rattle.route_report.specs.declared.faults.Side.{Side}
 use Rattle.route_report.specs.declared.faults.Fault.{Fault}
 use Rattle.route_report.specs.declared.faults.Fault.TheVariants as fault
 use Rattle.route_report.specs.Faults.{fault_line, status_of}
-use Rattle.gate_inline.specs.Inlined.{inline_code}
 use Rattle.gate_inline.specs.Programs.{IsAccepted, Program}
-use Rattle.qasm_check.specs.Refusals.{code as check_code}
 use Rattle.program_reader.specs.Refusals.{IsRefusal}
 use Rattle.program_reader.specs.declared.refusal.ProgramRefusal.{ProgramRefusal}
-use Rattle.program_reader.specs.declared.refusal.ProgramRefusal.TheVariants as refusal
 use Rattle.command_line.specs.declared.commands.Command.{Command}
 use Rattle.command_line.specs.declared.commands.Verifying.{Verifying}
 use Rattle.command_line.specs.Commands.{command_of}
 use Rattle.command_line.specs.Demands.{Question, device_name, initial_list, question_of, reads_input}
 use Rattle.qroute_top.specs.declared.stops.DeviceRefusal.{DeviceRefusal}
-use Rattle.qroute_top.specs.declared.stops.DeviceRefusal.TheVariants as device
 use Rattle.qroute_top.specs.declared.stops.DeviceStop.{DeviceStop}
 use Rattle.qroute_top.specs.declared.stops.DeviceStop.TheVariants as device_stop
 use Rattle.qroute_top.specs.declared.stops.QuestionRefusal.{QuestionRefusal}
-use Rattle.qroute_top.specs.declared.stops.QuestionRefusal.TheVariants as question
 use Rattle.qroute_top.specs.declared.stops.SourceStop.{SourceStop}
 use Rattle.qroute_top.specs.declared.stops.SourceStop.TheVariants as source_stop
 use Rattle.qroute_top.specs.declared.stops.ClaimStop.{ClaimStop}
 use Rattle.qroute_top.specs.declared.stops.ClaimStop.TheVariants as claim
 use Rattle.qroute_top.specs.declared.stops.Stop.{Stop}
 use Rattle.qroute_top.specs.declared.stops.Stop.TheVariants as stop
-use Rattle.qroute_top.specs.Claims.{Compares, IsEnding}
-use Rattle.qroute_top.specs.Claims as ending
+use Rattle.qroute_top.specs.Claims.{Compares, IsEnding, Stops}
 use Rattle.qroute_top.specs.Delivered.{Content}
 use Rattle.qroute_top.specs.Devices.{IsDeviceRefusal, HasSource}
+use Rattle.qroute_top.specs.Faults.{claim_fault, device_fault, question_fault, refusal_fault}
 use Rattle.qroute_top.specs.Questions.{IsQuestionRefusal}
 
 pub record Handed : Type 0 where
@@ -85,13 +76,7 @@ IsRefusedQuestion input q r = (text : List ℕ) × (p : Program) × Tells input 
 
 abbrev pub IsClaimCause : Content → Verifying → ℕ → ℕ → ClaimStop → Type 0
 IsClaimCause content v before after claim.Failed = Rose before after
-IsClaimCause content v before after claim.Absent = IsEnding content v ending.Absent × (after ≡ before)
-IsClaimCause content v before after (claim.Refused s r) = IsEnding content v (ending.Refused s r) × (after ≡ before)
-IsClaimCause content v before after (claim.TooFewQubits size qubits) = IsEnding content v (ending.Narrow size qubits) × (after ≡ before)
-IsClaimCause content v before after (claim.Trace line) = IsEnding content v (ending.Stopped line) × (after ≡ before)
-IsClaimCause content v before after claim.Placed = IsEnding content v ending.Placed × (after ≡ before)
-IsClaimCause content v before after claim.Reads = IsEnding content v ending.Reads × (after ≡ before)
-IsClaimCause content v before after (claim.Edge operation) = IsEnding content v (ending.Edge operation) × (after ≡ before)
+IsClaimCause content v before after x = IsEnding content v (Stops x) × (after ≡ before)
 
 abbrev pub IsCause : Handed → Stop → Type 0
 IsCause h stop.NoMemory = ⊤
@@ -117,53 +102,6 @@ IsDeviceCause content n initial before after device_stop.NoMemory = ⊤
 IsDeviceCause content n initial before after device_stop.Failed = Rose before after
 IsDeviceCause content n initial before after device_stop.Absent = HasNoText content
 IsDeviceCause content n initial before after (device_stop.Refused r) = IsRefusedDevice content n initial r
-
-abbrev pub refusal_fault : ProgramRefusal → Fault
-refusal_fault refusal.TooLong = fault.Plain 60
-refusal_fault (refusal.BadByte place) = fault.Place 10 place
-refusal_fault (refusal.Number place) = fault.Place 11 place
-refusal_fault (refusal.Syntax place) = fault.Place 12 place
-refusal_fault (refusal.Version place) = fault.Place 13 place
-refusal_fault (refusal.Depth place) = fault.Place 14 place
-refusal_fault (refusal.Check r) = fault.Statement (check_code r.refusal) r.statement
-refusal_fault (refusal.Inline r) = fault.Statement (inline_code r.refusal) r.statement
-
-abbrev pub device_fault : DeviceRefusal → Fault
-device_fault device.TooLong = fault.Plain 55
-device_fault (device.Fault device_fault_is.Text) = fault.Plain 50
-device_fault (device.Fault device_fault_is.Shape) = fault.Plain 51
-device_fault (device.Fault device_fault_is.Range) = fault.Plain 52
-device_fault (device.Fault (device_fault_is.SelfEdge qubit)) = fault.SelfEdge qubit
-device_fault (device.Fault (device_fault_is.EdgeCost from to)) = fault.EdgeCost from to
-device_fault (device.Fault (device_fault_is.NotConnected from to)) = fault.NotConnected from to
-device_fault (device.TooFewQubits size qubits) = fault.TooFewQubits size qubits
-device_fault (device.Initial size qubits) = fault.Initial size qubits
-
-abbrev pub question_fault : QuestionRefusal → Fault
-question_fault (question.WideProgram qubits) = fault.WideProgram qubits
-question_fault (question.ManyBranches branches) = fault.ManyBranches branches
-question_fault (question.BitsLength qubits) = fault.BitsLength qubits
-question_fault (question.TooManySpares qubits spares) = fault.TooManySpares qubits spares
-
-abbrev pub text_fault : Side → ProgramRefusal → Fault
-text_fault s refusal.TooLong = fault.TextPlain 60 s
-text_fault s (refusal.BadByte place) = fault.TextPlace 10 place s
-text_fault s (refusal.Number place) = fault.TextPlace 11 place s
-text_fault s (refusal.Syntax place) = fault.TextPlace 12 place s
-text_fault s (refusal.Version place) = fault.TextPlace 13 place s
-text_fault s (refusal.Depth place) = fault.TextPlace 14 place s
-text_fault s (refusal.Check r) = fault.TextStatement (check_code r.refusal) r.statement s
-text_fault s (refusal.Inline r) = fault.TextStatement (inline_code r.refusal) r.statement s
-
-abbrev pub claim_fault : ClaimStop → Fault
-claim_fault claim.Failed = fault.Shelf
-claim_fault claim.Absent = fault.Absent
-claim_fault (claim.Refused s r) = text_fault s r
-claim_fault (claim.TooFewQubits size qubits) = fault.TooFewQubits size qubits
-claim_fault (claim.Trace line) = fault.Trace line
-claim_fault claim.Placed = fault.Placed
-claim_fault claim.Reads = fault.Reads
-claim_fault (claim.Edge operation) = fault.Edge operation
 
 abbrev pub fault_of : Stop → Option Fault
 fault_of stop.NoMemory = None

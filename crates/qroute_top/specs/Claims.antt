@@ -10,9 +10,8 @@
 --   AreReadAlike p q last   the registers are the same, and each bit reads the qubit at which its wire ends
 --   IsPlacedAsAsked, IsReadAsAsked, IsEdgedAsAsked   what is asked of the placements, of the reads and of the edges is so
 --   IsAllAsked v d p q first last   all three
---   Ending               how `verify` ends: a text is Absent, or Refused, or the device is Narrow, with fewer qubits than the target,
---                        or the trace is Stopped at a line, or what is asked isn't so, as it is Placed, Reads or has an Edge, by the
---                        number of the operation that follows none; or the claim is Proved
+--   Ending               how `verify` ends: it Stops, as a text is absent or refused, or the device has fewer qubits than the target,
+--                        or the trace stops at a line, or what is asked isn't so; or the claim is Proved
 --   IsChecked v d p q first last phase x   what the trace proves being so, it ends so
 --   IsJudged v d p q trace x   by the trace it ends so
 --   IsComparedOn content v d p q text x   with the source's program, the target's text and program, it ends so: the trace's text is
@@ -38,6 +37,7 @@ use Rattle.command_line.specs.declared.commands.Command.{Command}
 use Rattle.command_line.specs.declared.commands.Verifying.{Verifying}
 use Rattle.coupling_map.specs.Coupling.{Coupling}
 use Rattle.coupling_map.specs.Edges.{FollowsEdges}
+use Rattle.route_report.specs.Faults.{status_of}
 use Rattle.route_report.specs.Verdicts.{verdict_text}
 use Rattle.route_report.specs.declared.faults.Side.{Side}
 use Rattle.route_report.specs.declared.faults.Side.TheVariants as side
@@ -46,12 +46,14 @@ use Rattle.trace_text.specs.Texts.{trace_of}
 use Rattle.unitary_model.specs.Realises.{Realises}
 use Rattle.circuit_target.specs.Standing.{claim_of}
 use Rattle.verdict_checks.specs.Checks.{AreInPlace, IsFirstOff, ReadsAlike}
+use Rattle.qroute_top.specs.declared.stops.ClaimStop.{ClaimStop}
+use Rattle.qroute_top.specs.declared.stops.ClaimStop.TheVariants as claim
 use Rattle.qroute_top.specs.Devices.{IsDevice}
+use Rattle.qroute_top.specs.Faults.{claim_fault}
 
 abbrev pub limit_of : Side → ℕ
 limit_of side.Source = most_text_bytes
-limit_of side.Target = 67108864
-limit_of side.Trace = 67108864
+limit_of _ = 67108864
 
 abbrev pub IsTextRefused : Side → List ℕ → ProgramRefusal → Type 0
 IsTextRefused s text r = ((r ≡ TooLong) × (limit_of s < length text)) ⊎ ((length text ≤ limit_of s) × IsTextRefusal text r)
@@ -94,46 +96,41 @@ pub record IsAllAsked (v : Verifying) (d : Option Coupling) (p q : Program) (fir
   pub edges : IsEdgedAsAsked d q
 
 pub data Ending : Type 0 where
-  Absent : Ending
-  Refused : (text : Side) (refusal : ProgramRefusal) → Ending
-  Narrow : (device qubits : ℕ) → Ending
-  Stopped : (line : ℕ) → Ending
-  Placed : Ending
-  Reads : Ending
-  Edge : (operation : ℕ) → Ending
+  Stops : (stop : ClaimStop) → Ending
   Proved : (first last : List ℕ) (phase : ℕ) → Ending
 
 -- the first of what is asked that isn't so, or yes
 abbrev pub IsChecked : Verifying → Option Coupling → Program → Program → List ℕ → List ℕ → ℕ → Ending → Type 0
-IsChecked v d p q first last phase Placed = IsPlacedAsAsked v first last → ⊥
-IsChecked v d p q first last phase Reads = IsPlacedAsAsked v first last × (IsReadAsAsked v p q last → ⊥)
-IsChecked v d p q first last phase (Edge n) = IsPlacedAsAsked v first last × IsReadAsAsked v p q last
+IsChecked v d p q first last phase (Stops claim.Placed) = IsPlacedAsAsked v first last → ⊥
+IsChecked v d p q first last phase (Stops claim.Reads) = IsPlacedAsAsked v first last × (IsReadAsAsked v p q last → ⊥)
+IsChecked v d p q first last phase (Stops (claim.Edge n)) = IsPlacedAsAsked v first last × IsReadAsAsked v p q last
     × ((c : Coupling) × (d ≡ Some c) × IsFirstOff c.edges q.ops n)
 IsChecked v d p q first last phase (Proved f l j) = IsAllAsked v d p q first last × (f ≡ first) × (l ≡ last) × (j ≡ phase)
 IsChecked v d p q first last phase _ = ⊥
 
 abbrev pub IsJudged : Verifying → Option Coupling → Program → Program → List ℕ → Ending → Type 0
-IsJudged v d p q trace (Stopped line) = StopsAt (claim_of p q) trace line
+IsJudged v d p q trace (Stops (claim.Trace line)) = StopsAt (claim_of p q) trace line
 IsJudged v d p q trace x = (first : List ℕ) × (last : List ℕ) × (phase : ℕ) × Proves (claim_of p q) trace first last phase
     × IsChecked v d p q first last phase x
 
 -- what is found of the trace's text, where it has one of its own
 abbrev pub IsComparedOn : (List ℕ → Option (Option (List ℕ))) → Verifying → Option Coupling → Program → List ℕ → Program → Ending → Type 0
-IsComparedOn content v d p text q (Narrow size qubits) = (c : Coupling) × (d ≡ Some c) × (size ≡ c.size) × (qubits ≡ q.wires) × (size < qubits)
-IsComparedOn content v d p text q Absent = IfSome d (λ c. q.wires ≤ c.size) × ((name : List ℕ) × (v.trace ≡ Some name) × HasNoText (content name))
-IsComparedOn content v d p text q (Refused s r) = IfSome d (λ c. q.wires ≤ c.size) × ((name : List ℕ) × (other : List ℕ) × (v.trace ≡ Some name)
+IsComparedOn content v d p text q (Stops (claim.TooFewQubits size qubits)) =
+    (c : Coupling) × (d ≡ Some c) × (size ≡ c.size) × (qubits ≡ q.wires) × (size < qubits)
+IsComparedOn content v d p text q (Stops claim.Absent) = IfSome d (λ c. q.wires ≤ c.size) × ((name : List ℕ) × (v.trace ≡ Some name) × HasNoText (content name))
+IsComparedOn content v d p text q (Stops (claim.Refused s r)) = IfSome d (λ c. q.wires ≤ c.size) × ((name : List ℕ) × (other : List ℕ) × (v.trace ≡ Some name)
     × TellsText (content name) other × (limit_of side.Trace < length other) × (s ≡ side.Trace) × (r ≡ TooLong))
 IsComparedOn content v d p text q x = IfSome d (λ c. q.wires ≤ c.size) × ((trace : List ℕ) × HasTrace content v.trace text trace
     × IsJudged v d p q trace x)
 
 abbrev pub IsCompared : (List ℕ → Option (Option (List ℕ))) → Verifying → Option Coupling → Program → Found → Ending → Type 0
-IsCompared content v d p Missing x = x ≡ Absent
-IsCompared content v d p (Bad r) x = x ≡ Refused side.Target r
+IsCompared content v d p Missing x = x ≡ Stops claim.Absent
+IsCompared content v d p (Bad r) x = x ≡ Stops (claim.Refused side.Target r)
 IsCompared content v d p (Good text q) x = IsComparedOn content v d p text q x
 
 abbrev pub IsBehind : (List ℕ → Option (Option (List ℕ))) → Verifying → Option Coupling → Found → Ending → Type 0
-IsBehind content v d Missing x = x ≡ Absent
-IsBehind content v d (Bad r) x = x ≡ Refused side.Source r
+IsBehind content v d Missing x = x ≡ Stops claim.Absent
+IsBehind content v d (Bad r) x = x ≡ Stops (claim.Refused side.Source r)
 IsBehind content v d (Good text p) x = (y : Found) × Finds (content v.target) side.Target y × IsCompared content v d p y x
 
 abbrev pub IsEnding : (List ℕ → Option (Option (List ℕ))) → Verifying → Ending → Type 0
@@ -179,11 +176,5 @@ pub record Compares (words : List (List ℕ)) (v : Verifying) : Type 0 where
   pub claim : asked_claim command ≡ Some v
 
 abbrev pub ending_status : Ending → ℕ
-ending_status Absent = 9
-ending_status (Refused s r) = 3
-ending_status (Narrow device qubits) = 4
-ending_status (Stopped line) = 1
-ending_status Placed = 1
-ending_status Reads = 1
-ending_status (Edge operation) = 1
+ending_status (Stops x) = status_of (claim_fault x)
 ending_status (Proved first last phase) = 0

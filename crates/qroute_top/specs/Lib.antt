@@ -1,5 +1,6 @@
 -- ---- definitions that public clauses reach
 pub mod Devices
+pub mod Faults
 pub mod Questions
 pub mod WithSpares
 pub mod Claims
