@@ -17,9 +17,8 @@ use Rattle.unitary_model.specs.OddPaths.{odd_paths}
 use Rattle.unitary_model.specs.Operations.{t_count}
 
 abbrev pub placed_barriers : List Part → List (List ℕ) → List (List ℕ)
-placed_barriers [] bars = []
-placed_barriers (p ∷ parts) [] = []
 placed_barriers (p ∷ parts) (ws ∷ bars) = map (slice_index p.last) ws ∷ placed_barriers parts bars
+placed_barriers _ _ = []
 
 abbrev pub HasFewTs : ℕ → Part → Type 0
 HasFewTs n p = t_count p.target ≤ odd_paths n p.source
@@ -36,9 +35,8 @@ pub record AreMade (source target : Program) (parts : List Part) (told : Report)
   pub t_gates : AllByRecursion (HasFewTs source.wires) parts
 
 abbrev pub between : List Part → List (List ℕ)
-between [] = []
-between (p ∷ []) = []
 between (p ∷ q ∷ parts) = p.last ∷ between (q ∷ parts)
+between _ = []
 
 abbrev pub told_parts : Bool → List Part → Option ToldParts
 told_parts false parts = None

@@ -2,7 +2,7 @@
 --   IsEntryText us x y text     the text is the line of the entry of the operations us from the bits x to the bits y
 --   IsQuestionRefusal o p r     r is the first refusal of the question, where there is one, by the program p: of an entry between bits for too
 --                               many wires, or else too many branches, or else another number of bits; of spares for too many in all
-use Rattle.std.specs.Prelude.{◌≡◌, ℕ, ◌+◌, ◌<◌, ◌≤◌, Bool, List, Option, Some, None, length}
+use Rattle.std.specs.Prelude.{◌≡◌, ℕ, ◌+◌, ◌<◌, ◌≤◌, Bool, List, Option, Some, length}
 use Rattle.amplitude_exact.specs.Entries.{IsExact, branches, most_branches, most_entry_wires}
 use Rattle.circuit_list.specs.Gates.{most_wires}
 use Rattle.gate_inline.specs.Programs.{Program}
@@ -21,7 +21,6 @@ pub record IsEntryText (us : List Op) (x y : List Bool) (text : List ℕ) : Type
   pub line : text ≡ entry_line entry
 
 abbrev pub IsQuestionRefusal : Option Question → Program → QuestionRefusal → Type 0
-IsQuestionRefusal None p r = ⊥
 IsQuestionRefusal (Some (EntryOf from to)) p (question.WideProgram qubits) = (most_entry_wires < p.wires) × (qubits ≡ p.wires)
 IsQuestionRefusal (Some (EntryOf from to)) p (question.ManyBranches n) =
     (p.wires ≤ most_entry_wires) × (most_branches < branches p.ops) × (n ≡ branches p.ops)
@@ -29,4 +28,4 @@ IsQuestionRefusal (Some (EntryOf from to)) p (question.BitsLength qubits) = (p.w
     × ((length from ≡ p.wires) × (length to ≡ p.wires) → ⊥) × (qubits ≡ p.wires)
 IsQuestionRefusal (Some (Spares m)) p (question.TooManySpares qubits spares) =
     (most_wires < p.wires + m) × (qubits ≡ p.wires) × (spares ≡ m)
-IsQuestionRefusal (Some q) p r = ⊥
+IsQuestionRefusal _ p r = ⊥
