@@ -3,7 +3,7 @@
 --   Realises_onward      a realisation that was rewritten
 --   FollowsEdges-kept    gates whose CNOTs stand among others follow the edges where those do
 --   IsLeg-run            it is a leg
-use Rattle.std.proofs.Common.{◌≡◌, ℕ, ◌+◌, ◌-◌, ◌*◌, ◌%◌, ◌<◌, ◌≤◌, Bool, true, false, List, [], ◌∷◌, All, sym, subst, ap, ◌∙◌, arith}
+use Rattle.std.proofs.Common.{◌≡◌, inl, inr, ℕ, ◌+◌, ◌-◌, ◌*◌, ◌%◌, ◌<◌, ◌≤◌, Bool, true, false, List, [], ◌∷◌, All, length, sym, subst, ap, ◌∙◌, arith}
 use Rattle.std.specs.Prelude.{Contains}
 use Rattle.std.specs.List.{AllByRecursion}
 use Rattle.std.proofs.lemmas.Nat.{mul-le}
@@ -15,7 +15,7 @@ use Rattle.coupling_map.specs.Coupling.{Coupling, cost}
 use Rattle.coupling_map.specs.Edges.{FollowsEdge, FollowsEdges}
 use Rattle.coupling_map.specs.Walks.{IsDiameter}
 use Rattle.program_parts.specs.Parts.{Part}
-use Rattle.rewrite_pass.specs.Law.{KeepsCnots}
+use Rattle.rewrite_pass.specs.Law.{IsSmallerOrSame, KeepsCnots}
 use Rattle.routed_parts.specs.RoutedParts.{IsCleaned, IsPartOnDevice}
 use Rattle.routed_parts.specs.Runs.{IsLeft}
 use Rattle.routed_parts.specs.Settled.{IsSettled}
@@ -79,13 +79,17 @@ FollowsEdges-kept es old new keeps h =
         All-contains (λ (g : Gate). FollowsEdge es (op_of g)) old (Cx c t) before (keeps c t has)
 
 -- ---- what is left, as it is or cleaned
+no-more : (old new : List Gate) → IsSmallerOrSame old new → length new ≤ length old
+no-more old new (inl less) = omega (arith, less)
+no-more old new (inr same) = let e = ap (λ (gs : List Gate). length gs) same in omega (arith, e)
+
 left-run : (clean : Bool) (d : Coupling) (p : Part) (ws left : List Gate) (a t k : ℕ) → IsCleaned clean d.size ws left k
     → p.target ≡ ops left → p.power ≡ ((a + t) % 8 + k) % 8 → IsLeft clean p (a + t) ws
 left-run false d p ws left a t k cleaned target power = (target ∙ ap ops cleaned.0, same p.power (a + t) k cleaned.1 power)
   where
     same : (q m k : ℕ) → k ≡ 0 → q ≡ (m % 8 + k) % 8 → q ≡ m % 8
     same q m k e f = omega (arith, e, f)
-left-run true d p ws left a t k cleaned target power = (left, target, cleaned.1, cleaned.2, cleaned.0.cx_gates)
+left-run true d p ws left a t k cleaned target power = (left, target, cleaned.1, cleaned.2, cleaned.0.cx_gates, no-more ws left cleaned.3)
 
 realises-left : (clean : Bool) (S : List Op) (n size : ℕ) (first last : List ℕ) (ws left : List Gate) (j k : ℕ)
     → IsCleaned clean size ws left k → Realises S n (ops ws) size first last j

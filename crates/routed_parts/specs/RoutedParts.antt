@@ -11,7 +11,7 @@ use Rattle.coupling_map.specs.Coupling.{Coupling, cost}
 use Rattle.coupling_map.specs.Edges.{FollowsEdges}
 use Rattle.coupling_map.specs.Walks.{IsDiameter}
 use Rattle.program_parts.specs.Parts.{Part}
-use Rattle.rewrite_pass.specs.Law.{IsRewriting, KeepsCnots}
+use Rattle.rewrite_pass.specs.Law.{IsRewriting, IsSmallerOrSame, KeepsCnots}
 use Rattle.sabre_route.specs.Measures.{swap_bound}
 use Rattle.sabre_route.specs.declared.router.Routed.{Routed}
 use Rattle.unitary_model.specs.OddPaths.{odd_paths}
@@ -23,7 +23,7 @@ use Rattle.routed_parts.specs.Settled.{IsSettled}
 
 abbrev pub IsCleaned : Bool → ℕ → List Gate → List Gate → ℕ → Type 0
 IsCleaned false n old new k = (new ≡ old) × (k ≡ 0)
-IsCleaned true n old new k = IsRewriting n old new k × NoReducible new × KeepsCnots old new
+IsCleaned true n old new k = IsRewriting n old new k × NoReducible new × KeepsCnots old new × IsSmallerOrSame old new
 
 pub record IsPartInPlace (n : ℕ) (p : Part) : Type 0 where
   pub realised : Realises p.source n p.target n (identity n) (identity n) p.power

@@ -1,7 +1,7 @@
 -- What the router does for a source: the routing machine's runs.
 --   IsLeft clean p k ws         of the gates ws that the machine wrote, with the turn k against the source, the part
 --                               has what is written: these gates; or, cleaned, gates without a reducible pair whose
---                               CNOTs are on pairs of theirs
+--                               CNOTs are on pairs of theirs, and of both no more than theirs
 --   IsOfRun clean n p gates r   the part is what is left of the run r over these settled gates on n wires, which stand
 --                               for its source;  AreOfRuns: each of the parts is so
 --   HasNoMoreSwaps d starts lists parts   one try alone has runs too, which are taken where nothing is told of tries;
@@ -9,7 +9,7 @@
 --   AreMachineRuns d starts clean n first parts   the parts are what is left of the runs that are taken over some lists
 --   HasFewSwaps d S us swaps    for each CNOT of S at most as many swaps as the qubits and the diameter, or twice as
 --                               many as the qubits where costs are listed, so at most three times as many CNOTs more
-use Rattle.std.specs.Prelude.{◌≡◌, ℕ, ◌+◌, ◌*◌, ◌%◌, ◌≤◌, All, Bool, true, false, List, [], ◌∷◌, None, sum_by}
+use Rattle.std.specs.Prelude.{◌≡◌, ℕ, ◌+◌, ◌*◌, ◌%◌, ◌≤◌, All, Bool, true, false, List, [], ◌∷◌, None, length, sum_by}
 use Rattle.circuit_list.specs.declared.Gate.{Gate}
 use Rattle.circuit_list.specs.Gates.{IsFine, ops}
 use Rattle.commute_rules.specs.Reducible.{NoReducible}
@@ -31,7 +31,7 @@ use Rattle.routed_parts.specs.Tries.{AreTaken}
 abbrev pub IsLeft : Bool → Part → ℕ → List Gate → Type 0
 IsLeft false p k ws = (p.target ≡ ops ws) × (p.power ≡ k % 8)
 IsLeft true p k ws = (gates : List Gate) × (p.target ≡ ops gates) × NoReducible gates × KeepsCnots ws gates
-    × (cx_count (ops gates) ≤ cx_count (ops ws))
+    × (cx_count (ops gates) ≤ cx_count (ops ws)) × (length gates ≤ length ws)
 
 pub record IsOfRun (clean : Bool) (n : ℕ) (p : Part) (gates : List Gate) (r : Routed) : Type 0 where
   -- the gates, and their turn against the source
