@@ -25,13 +25,7 @@ IsWithinTextLimit text = length text ≤ most_text_bytes
 
 abbrev pub IsRefusal : List ℕ → ProgramRefusal → Type 0
 IsRefusal text TooLong = most_text_bytes < length text
-IsRefusal text (BadByte place) = IsWithinTextLimit text × IsTextRefusal text (BadByte place)
-IsRefusal text (Number place) = IsWithinTextLimit text × IsTextRefusal text (Number place)
-IsRefusal text (Syntax place) = IsWithinTextLimit text × IsTextRefusal text (Syntax place)
-IsRefusal text (Version place) = IsWithinTextLimit text × IsTextRefusal text (Version place)
-IsRefusal text (Depth place) = IsWithinTextLimit text × IsTextRefusal text (Depth place)
-IsRefusal text (Check r) = IsWithinTextLimit text × IsTextRefusal text (Check r)
-IsRefusal text (Inline r) = IsWithinTextLimit text × IsTextRefusal text (Inline r)
+IsRefusal text r = IsWithinTextLimit text × IsTextRefusal text r
 
 abbrev pub IsProgramFault : List ℕ → ProgramFault → Type 0
 IsProgramFault text (Refused r) = IsRefusal text r
