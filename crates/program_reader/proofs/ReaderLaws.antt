@@ -6,7 +6,7 @@
 --   means-once           and means one program at most
 --   whole-means, parts-means   what is read as one part, or in parts, is what the text means
 --   unparsed, unlexed    a text that spells a tree has no fault in its tokens or its grammar
---   accepted-no_refusal  an accepted text has no refusal
+--   accepted-no_refusal  an accepted text has no refusal;  written-refused: one that is written has one of its size alone
 --   IsTextFault-lexed, -parsed, -checked, -written     from the stages' faults to the text's
 --   IsAcceptedText-read      and from their answers to the text's program
 use Rattle.std.proofs.Common.{◌≡◌, ℕ, ◌<◌, ◌≤◌, Bool, false, true, List, All, Result, Ok, refl, sym, subst, ◌∙◌, arith, length}
@@ -29,16 +29,19 @@ use Rattle.qasm_check.specs.declared.refusal.CheckFault.{CheckFault}
 use Rattle.qasm_check.specs.declared.refusal.CheckFault.TheVariants as checking
 use Rattle.gate_library.specs.Gates.{BoundGate}
 use Rattle.gate_expand.specs.declared.source.Ops.{Ops}
-use Rattle.gate_inline.specs.Inlined.{IsInlineFault, IsInlined, operations}
+use Rattle.gate_inline.specs.Inlined.{IsInlineFault, IsInlineRefused, IsInlined, operations}
 use Rattle.gate_inline.specs.Programs.{IsTreeOf, IsWithinLimits, IsWritten, Means, Program, kept}
 use Rattle.gate_inline.specs.Splits.{IsCutOf, IsSplit, cut_of}
 use Rattle.gate_inline.specs.declared.split.Split.{Split}
+use Rattle.gate_inline.specs.declared.refusal.InlineRefusal.{InlineRefusal}
+use Rattle.gate_inline.specs.declared.refusal.InlineRefusal.TheVariants.{AngleForm, AngleZero, AngleRange, AngleStep, TooManyOps}
+use Rattle.gate_inline.specs.declared.refusal.InlineRefused.{InlineRefused}
 use Rattle.gate_inline.specs.declared.refusal.InlineFault.{InlineFault}
 use Rattle.gate_inline.specs.declared.refusal.InlineFault.TheVariants as inlining
 use Rattle.program_parts.specs.Cuts.{Cut, IsCut, uncut, whole}
 use Rattle.program_reader.specs.Refusals.{lex_fault, parse_fault}
 use Rattle.program_reader.specs.Stages.{IsBoundReadAs, IsUnchecked, IsUnwritten}
-use Rattle.program_reader.specs.Texts.{IsAcceptedText, IsTextFault, IsTextRefusal, IsUnparsed}
+use Rattle.program_reader.specs.Texts.{IsAcceptedText, IsForSize, IsTextFault, IsTextRefusal, IsUnparsed}
 use Rattle.program_reader.specs.declared.refusal.ProgramRefusal.{ProgramRefusal}
 use Rattle.program_reader.specs.declared.refusal.ProgramRefusal.TheVariants.{TooLong, BadByte, Number, Syntax, Version, Depth, Check, Inline}
 use Rattle.program_reader.specs.declared.refusal.ProgramFault.{ProgramFault}
@@ -126,6 +129,35 @@ accepted-no_refusal laws text p (Inline r) a (t, is, refused) =
     let small = subst (λ (x : Tree). IsWithinLimits (bound x)) same a.few in
     let means = subst (λ (x : Tree). Means (bound x) p) same a.means in
     let e = laws.no_inline_fault (bound t) _ (inlining.Refused r) (inlined_of (bound t) p small means) refused in cc
+
+-- of its size alone
+refused_never : (r : InlineRefused) → inlining.Refused r ≡ inlining.NoMemory → ⊥
+refused_never r e = cc
+
+for_size : Laws → (b : Bound) (p : Program) (e : InlineRefusal) (n : ℕ) → Means b p → IsInlineRefused b e n → e ≡ TooManyOps
+for_size laws b p TooManyOps n m f = refl
+for_size laws b p AngleForm n m f =
+    absurd (refused_never _ (laws.no_inline_fault b _ (inlining.Refused (record { refusal = AngleForm; statement = n })) (inlined_of b p f.0 m) f))
+for_size laws b p AngleZero n m f =
+    absurd (refused_never _ (laws.no_inline_fault b _ (inlining.Refused (record { refusal = AngleZero; statement = n })) (inlined_of b p f.0 m) f))
+for_size laws b p AngleRange n m f =
+    absurd (refused_never _ (laws.no_inline_fault b _ (inlining.Refused (record { refusal = AngleRange; statement = n })) (inlined_of b p f.0 m) f))
+for_size laws b p AngleStep n m f =
+    absurd (refused_never _ (laws.no_inline_fault b _ (inlining.Refused (record { refusal = AngleStep; statement = n })) (inlined_of b p f.0 m) f))
+
+pub written-refused : Laws → (text : List ℕ) (p : Program) (r : ProgramRefusal) → IsWritten text p → IsTextRefusal text r → IsForSize r
+written-refused laws text p TooLong w r = r
+written-refused laws text p (BadByte place) (t, source, m) r = let e = unlexed laws text t (lexing.BadByte place) source.0 r in cc
+written-refused laws text p (Number place) (t, source, m) r = let e = unlexed laws text t (lexing.Number place) source.0 r in cc
+written-refused laws text p (Syntax place) (t, source, m) r = let e = unparsed laws text t (parsing.Syntax place) source.0 r in cc
+written-refused laws text p (Version place) (t, source, m) r = let e = unparsed laws text t (parsing.Version place) source.0 r in cc
+written-refused laws text p (Depth place) (t, source, m) r = let e = unparsed laws text t (parsing.Depth place) source.0 r in cc
+written-refused laws text p (Check r) (t, source, m) (u, is, refused) =
+    let same = tree-once laws.lexed_once laws.spelt_once text t u source.0 is in
+    let e = laws.no_check_fault u (checking.Refused r) (subst (λ (x : Tree). IsFineTree x) same source.1) refused in cc
+written-refused laws text p (Inline r) (t, source, m) (u, is, refused) =
+    let same = tree-once laws.lexed_once laws.spelt_once text t u source.0 is.0 in
+    for_size laws (bound u) p r.refusal r.statement (subst (λ (x : Tree). Means (bound x) p) same m) refused
 
 -- ---- sizes and names of a tree
 abbrev pub FewTokens : Type 0

@@ -5,8 +5,9 @@
 --                            number that is too large, whichever comes first; else that no program is spelt, or one of another
 --                            version, or with an expression that is too deep; else that of the first statement which has one,
 --                            with the least code; else that there is too much to write out; else the first angle that isn't exact
+--   IsForSize r              it is that there is too much to write out
 --   IsTextFault text e       what may be told of a text of any length: such a refusal, or want of memory
-use Rattle.std.specs.Prelude.{ℕ, List}
+use Rattle.std.specs.Prelude.{◌≡◌, ℕ, List}
 use Rattle.qasm_lexer.specs.Tokens.{AreTokens, IsLexFault}
 use Rattle.qasm_lexer.specs.declared.Token.{Token}
 use Rattle.qasm_lexer.specs.declared.LexFault.TheVariants as lexing
@@ -16,6 +17,7 @@ use Rattle.qasm_parser.specs.declared.ParseFault.{ParseFault}
 use Rattle.qasm_parser.specs.declared.ParseFault.TheVariants as parsing
 use Rattle.qasm_check.specs.Checking.{IsCheckRefused, bound}
 use Rattle.gate_inline.specs.Inlined.{IsInlineRefused}
+use Rattle.gate_inline.specs.declared.refusal.InlineRefusal.TheVariants.{TooManyOps}
 use Rattle.gate_inline.specs.Programs.{IsSource, IsTreeOf, IsWithinLimits, Means, Program}
 use Rattle.program_reader.specs.declared.refusal.ProgramRefusal.{ProgramRefusal}
 use Rattle.program_reader.specs.declared.refusal.ProgramRefusal.TheVariants.{TooLong, BadByte, Number, Syntax, Version, Depth, Check, Inline}
@@ -40,6 +42,10 @@ IsTextRefusal text (Version place) = IsUnparsed text (parsing.Version place)
 IsTextRefusal text (Depth place) = IsUnparsed text (parsing.Depth place)
 IsTextRefusal text (Check r) = (t : Tree) × IsTreeOf text t × IsCheckRefused t r
 IsTextRefusal text (Inline r) = (t : Tree) × IsSource text t × IsInlineRefused (bound t) r.refusal r.statement
+
+abbrev pub IsForSize : ProgramRefusal → Type 0
+IsForSize (Inline r) = r.refusal ≡ TooManyOps
+IsForSize _ = ⊥
 
 abbrev pub IsTextFault : List ℕ → ProgramFault → Type 0
 IsTextFault text (Refused r) = IsTextRefusal text r

@@ -3,7 +3,7 @@
 ghost use Rattle.std.specs.Prelude.{◌≡◌, ◌⊎◌, ℕ, List};
 ghost use Rattle.gate_inline.specs.Programs.{IsAccepted, IsWritten, Program as Meant};
 ghost use Rattle.program_reader.specs.Refusals.{IsRefusal};
-ghost use Rattle.program_reader.specs.Texts.{IsAcceptedText, IsTextRefusal};
+ghost use Rattle.program_reader.specs.Texts.{IsAcceptedText, IsForSize, IsTextRefusal};
 ghost use Rattle.program_reader.specs.declared.refusal.ProgramRefusal.{ProgramRefusal as First};
 
 /// A text means one program at most.
@@ -18,6 +18,18 @@ pub fn means_once()
 /// A text of any length that is accepted has no refusal.
 pub fn accepted_text_has_no_refusal()
     ensures no_refusal { (text : List ℕ) (p : Meant) (r : First) → IsAcceptedText text p → IsTextRefusal text r → ⊥ }
+{
+    qasm_lexer::lexed_once();
+    qasm_lexer::accepted_has_no_fault();
+    qasm_parser::spelt_once();
+    qasm_parser::accepted_has_no_fault();
+    qasm_check::accepted_has_no_fault();
+    gate_inline::inlined_has_no_fault();
+}
+
+/// A text of any length that spells a program is refused for its size alone.
+pub fn written_text_is_refused_for_size()
+    ensures size { (text : List ℕ) (p : Meant) (r : First) → IsWritten text p → IsTextRefusal text r → IsForSize r }
 {
     qasm_lexer::lexed_once();
     qasm_lexer::accepted_has_no_fault();

@@ -15,7 +15,7 @@ mod source;
 
 pub use laws::{
     accepted_has_no_refusal, accepted_or_refused, accepted_text_has_no_refusal, means_once,
-    refused_once, text_accepted_or_refused, text_refused_once,
+    refused_once, text_accepted_or_refused, text_refused_once, written_text_is_refused_for_size,
 };
 pub use reading::{MOST_TEXT_BYTES, read_program, read_text};
 pub use refusal::{ProgramFault, ProgramRefusal};

@@ -2,7 +2,7 @@
 
 ghost use Rattle.std.specs.Prelude.{List, true, ℕ};
 ghost use Rattle.gate_inline.specs.Programs.{IsWritten, Program};
-ghost use Rattle.program_reader.specs.Texts.{IsAcceptedText, IsTextRefusal};
+ghost use Rattle.program_reader.specs.Texts.{IsAcceptedText, IsForSize, IsTextRefusal};
 ghost use Rattle.program_reader.specs.declared.refusal.ProgramRefusal.{ProgramRefusal as Refused};
 ghost use Rattle.route_report.specs.declared.lines.Report.{Report};
 ghost use Rattle.trace_text.specs.Texts.{trace_of};
@@ -12,6 +12,7 @@ ghost use Rattle.trace_verdict.specs.declared.verdict.Verdict.{Verdict as Told};
 
 use program_reader::{
     accepted_text_has_no_refusal, means_once, text_accepted_or_refused, text_refused_once,
+    written_text_is_refused_for_size,
 };
 use trace_model::laws::traces_are_exact;
 
@@ -26,16 +27,17 @@ pub fn verdicts_are_exact()
     traces_are_exact();
 }
 
-/// A program that carries its own trace, as `route --trace` writes one, is verified: unless it is refused as a text, the verdict on it
-/// and its source is yes, with the placements and the phase that the report tells.
+/// A program that carries its own trace, as `route --trace` writes one, is verified: unless it has more operations or items than a
+/// text may have, the verdict on it and its source is yes, with the placements and the phase that the report tells.
 pub fn own_traces_are_verified()
     ensures verified { (s t : List ℕ) (p q : Program) (told : Report) (v : Told) → IsAcceptedText s p → IsWritten t q
-        → ((r : Refused) → IsTextRefusal t r → ⊥) → IsOwnTrace true p q told (trace_of t) → IsVerdict s t (trace_of t) v
+        → ((r : Refused) → IsTextRefusal t r → IsForSize r → ⊥) → IsOwnTrace true p q told (trace_of t) → IsVerdict s t (trace_of t) v
         → IsYes told.initial told.last told.phase v }
 {
     text_accepted_or_refused();
     accepted_text_has_no_refusal();
     text_refused_once();
     means_once();
+    written_text_is_refused_for_size();
     traces_are_exact();
 }

@@ -12,5 +12,6 @@ returns c = record {
         one_line = c.traces_are_exact.ensures.one_line;
         one_proof = c.traces_are_exact.ensures.one_proof;
       } in
-      λ s t p q told v ok written fine proves is. yes-own laws c.text_accepted_or_refused.ensures.either s t p q told.initial told.last told.phase v ok written fine proves is;
+      λ s t p q told v ok written small proves is. yes-own laws c.text_accepted_or_refused.ensures.either s t p q told.initial told.last told.phase v ok written
+      (λ r refused. small r refused (c.written_text_is_refused_for_size.ensures.size t q r written refused)) proves is;
 }
