@@ -15,15 +15,12 @@ mod reduction;
 mod search;
 mod walk;
 
-ghost use Rattle.std.specs.Prelude.{◌≡◌, IfOk, OnOk, true};
+ghost use Rattle.std.specs.Prelude.{OnOk};
 ghost use Rattle.commute_rules.specs.Reducible.{NoReducible};
 ghost use Rattle.gate_cancel.specs.Reductions.{IsCancelled};
-ghost use Rattle.rewrite_pass.specs.Law.{IsRewriting, IsSmallerOrSame, KeepsCnots};
-ghost use Rattle.rewrite_pass.specs.Traces.{AreSteps};
 
-use circuit_list::{Circuit, Passed};
 use queue::Queue;
-use rewrite_pass::{KeepsPairs, Pass, Rewriting, Shrinks, Trace, Traced};
+use rewrite_pass::{KeepsPairs, Pass, Rewriting, Shrinks};
 use std::alloc::{AllocError, Global};
 use walk::{walk_all, walk_queue};
 
@@ -43,36 +40,10 @@ impl Pass for CancelPass {
 
     ghost kept = { λ n old new. KeepsCnots old new × IsSmallerOrSame old new };
 
-    fn run(&self, alloc: Global, body: Circuit) -> Result<Passed, AllocError> {
-        let (passed, _steps) = cancelled(alloc, body, false)?;
-        Ok(passed)
+    fn rewrite(&self, alloc: Global, circuit: &mut Rewriting) -> Result<(), AllocError> {
+        cancel_all(alloc, circuit)?;
+        Ok(())
     }
-}
-
-impl Traced for CancelPass {
-    fn run_traced(
-        &self,
-        alloc: Global,
-        body: Circuit,
-        trace: &mut Trace,
-    ) -> Result<Passed, AllocError> {
-        let (passed, mut steps) = cancelled(alloc, body, true)?;
-        trace.append(&mut steps)?;
-        Ok(passed)
-    }
-}
-
-/// What [`CancelPass`] gives, and the steps that led to it, if they are told.
-fn cancelled(alloc: Global, body: Circuit, told: bool) -> Result<(Passed, Trace), AllocError>
-    ensures wires { IfOk result (λ r. r.0.body.wires ≡ body.wires) }
-    ensures law { IfOk result (λ r. IsRewriting body.wires body.gates r.0.body.gates r.0.turn) }
-    ensures none { IfOk result (λ r. NoReducible r.0.body.gates) }
-    ensures kept { IfOk result (λ r. KeepsCnots body.gates r.0.body.gates × IsSmallerOrSame body.gates r.0.body.gates) }
-    ensures steps { IfOk result (λ r. told ≡ true → AreSteps body.wires body.gates r.1 r.0.body.gates r.0.turn) }
-{
-    let mut circuit = Rewriting::new(alloc, body, told);
-    cancel_all(alloc, &mut circuit)?;
-    Ok(circuit.finish())
 }
 
 /// Cancels and merges until no reducible pair is left.

@@ -17,8 +17,8 @@ mod window;
 ghost use Rattle.std.specs.Prelude.{◌<◌};
 
 use change::{change_of, number_of};
-use circuit_list::{Circuit, Passed, Slot};
-use rewrite_pass::{Change, NumberedRule, Pass, Rule, Sweep, Trace, Traced};
+use circuit_list::{Circuit, Slot};
+use rewrite_pass::{Change, NumberedRule, Pass, Rewriting, Rule, Sweep};
 use std::alloc::{AllocError, Global};
 use window::window_at;
 
@@ -80,18 +80,7 @@ impl Pass for HadamardPass {
 
     ghost kept = { λ n old new. length new ≤ length old };
 
-    fn run(&self, alloc: Global, body: Circuit) -> Result<Passed, AllocError> {
-        Sweep(HadamardRules).run(alloc, body)
-    }
-}
-
-impl Traced for HadamardPass {
-    fn run_traced(
-        &self,
-        alloc: Global,
-        body: Circuit,
-        trace: &mut Trace,
-    ) -> Result<Passed, AllocError> {
-        Sweep(HadamardRules).run_traced(alloc, body, trace)
+    fn rewrite(&self, alloc: Global, circuit: &mut Rewriting) -> Result<(), AllocError> {
+        Sweep(HadamardRules).rewrite(alloc, circuit)
     }
 }

@@ -11,13 +11,14 @@
 
 mod walk;
 
-ghost use Rattle.std.specs.Prelude.{◌≡◌, IfOk, true};
+ghost use Rattle.std.specs.Prelude.{◌≡◌, IfOk};
 ghost use Rattle.not_propagate.specs.LastX.{XLast};
-ghost use Rattle.rewrite_pass.specs.Law.{IsRewriting};
-ghost use Rattle.rewrite_pass.specs.Traces.{AreSteps};
+ghost use Rattle.path_parity.specs.NamedSums.{SamePathSum};
+ghost use Rattle.rewrite_pass.specs.Derivations.{HasNoMore};
+ghost use Rattle.rewrite_pass.specs.Traces.{constants_turn};
 
 use circuit_list::{Circuit, Passed};
-use rewrite_pass::{Pass, Rewriting, Trace, Traced};
+use rewrite_pass::{Pass, Rewriting};
 use std::alloc::{AllocError, Global};
 use walk::Walk;
 
@@ -31,31 +32,20 @@ impl Pass for NotPass {
 
     ghost kept = { λ _ _ _. Unit {0} };
 
-    fn run(&self, alloc: Global, body: Circuit) -> Result<Passed, AllocError> {
-        let (passed, _step) = propagated(alloc, body, false)?;
-        Ok(passed)
+    fn rewrite(&self, alloc: Global, circuit: &mut Rewriting) -> Result<(), AllocError> {
+        let passed = propagated(alloc, circuit.body())?;
+        circuit.replace(passed.body, passed.turn)?;
+        Ok(())
     }
 }
 
-impl Traced for NotPass {
-    fn run_traced(
-        &self,
-        alloc: Global,
-        body: Circuit,
-        trace: &mut Trace,
-    ) -> Result<Passed, AllocError> {
-        let (passed, mut step) = propagated(alloc, body, true)?;
-        trace.append(&mut step)?;
-        Ok(passed)
-    }
-}
-
-/// What [`NotPass`] gives, and the step that led to it, if it is told: the result has the path sum of the circuit.
-fn propagated(alloc: Global, body: Circuit, told: bool) -> Result<(Passed, Trace), AllocError>
-    ensures wires { IfOk result (λ r. r.0.body.wires ≡ body.wires) }
-    ensures law { IfOk result (λ r. IsRewriting body.wires body.gates r.0.body.gates r.0.turn) }
-    ensures shape { IfOk result (λ r. XLast r.0.body.gates) }
-    ensures steps { IfOk result (λ r. told ≡ true → AreSteps body.wires body.gates r.1 r.0.body.gates r.0.turn) }
+/// The circuit with its X at the end, and its turn.
+fn propagated(alloc: Global, body: &Circuit) -> Result<Passed, AllocError>
+    ensures wires { IfOk result (λ p. p.body.wires ≡ body.now.wires) }
+    ensures sums { IfOk result (λ p. SamePathSum body.now.wires body.now.gates p.body.gates) }
+    ensures turn { IfOk result (λ p. p.turn ≡ constants_turn body.now.wires body.now.gates p.body.gates) }
+    ensures no_more { IfOk result (λ p. HasNoMore body.now.wires body.now.gates p.body.gates) }
+    ensures shape { IfOk result (λ p. XLast p.body.gates) }
 {
     body.facts();
     let mut walk = Walk::start(alloc, body.wires(), body.len())?;
@@ -63,7 +53,5 @@ fn propagated(alloc: Global, body: Circuit, told: bool) -> Result<(Passed, Trace
         walk.step(body.gate(i))?;
     }
     let passed = walk.finish()?;
-    let mut circuit = Rewriting::new(alloc, body, told);
-    circuit.replace(passed.body, passed.turn)?;
-    Ok(circuit.finish())
+    Ok(passed)
 }

@@ -9,7 +9,7 @@ ghost use Rattle.phase_poly.specs.Replaced.{KeepsBound};
 use crate::relinking::{cx_number, relinked};
 use circuit_layers::layers;
 use circuit_list::{Circuit, Gate, Passed};
-use rewrite_pass::{Pass, Trace, Traced};
+use rewrite_pass::{Pass, Rewriting};
 use std::alloc::{AllocError, Global};
 
 /// Replaces each layer by its resynthesis where that has fewer CNOTs: the circuit is then its layers in order, each
@@ -24,28 +24,12 @@ impl Pass for ResynthPass {
 
     ghost kept = { KeepsBound };
 
-    fn run(&self, alloc: Global, body: Circuit) -> Result<Passed, AllocError> {
-        match remade(alloc, &body)? {
-            Some(passed) => Ok(passed),
-            None => Ok(Passed { body, turn: 0 }),
-        }
-    }
-}
-
-impl Traced for ResynthPass {
-    fn run_traced(
-        &self,
-        alloc: Global,
-        body: Circuit,
-        trace: &mut Trace,
-    ) -> Result<Passed, AllocError> {
-        match remade(alloc, &body)? {
-            Some(passed) => {
-                trace.push_sums(&body, &passed.body)?;
-                Ok(passed)
-            }
-            None => Ok(Passed { body, turn: 0 }),
-        }
+    fn rewrite(&self, alloc: Global, circuit: &mut Rewriting) -> Result<(), AllocError> {
+        let Some(passed) = remade(alloc, circuit.body())? else {
+            return Ok(());
+        };
+        circuit.replace(passed.body, passed.turn)?;
+        Ok(())
     }
 }
 

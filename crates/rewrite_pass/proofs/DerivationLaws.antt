@@ -2,7 +2,8 @@
 --     continued_refl, continued_trans    one derivation, further on
 --     derivation_stepped      one step more
 --     derivation_replaced     another circuit with the same path sum
-use Rattle.std.proofs.Common.{◌≡◌, ℕ, ◌+◌, ◌%◌, List, true, refl, sym, subst, ◌∙◌, ap, arith, All}
+--     derivation_gone_on      what was made in a branch, and its steps
+use Rattle.std.proofs.Common.{◌≡◌, ℕ, ◌+◌, ◌%◌, ◌++◌, List, true, refl, sym, subst, ◌∙◌, ap, arith, All}
 use Rattle.std.proofs.lemmas.List.Elements.{recursion_from_All}
 use Rattle.circuit_list.specs.declared.Gate.{Gate}
 use Rattle.circuit_list.specs.Body.{Body}
@@ -11,7 +12,7 @@ use Rattle.path_parity.specs.NamedSums.{SamePathSum}
 use Rattle.rewrite_pass.specs.Law.{IsRewriting}
 use Rattle.rewrite_pass.specs.Traces.{Step, AreSteps, constants_turn}
 use Rattle.rewrite_pass.specs.TraceOf.{IsTraced}
-use Rattle.rewrite_pass.specs.Derivations.{Derivation, IsContinued, IsDerivation, IsStepped, IsReplacedBy, HasNoMore}
+use Rattle.rewrite_pass.specs.Derivations.{Derivation, IsBranch, IsContinued, IsDerivation, IsStepped, IsReplacedBy, HasNoMore}
 use Rattle.rewrite_pass.proofs.RewritingLaws.{IsRewriting_trans}
 use Rattle.rewrite_pass.proofs.TracedLaws.{AreSteps-append, IsTraced_refl, IsTraced_step, IsTraced_sums}
 use Rattle.rewrite_pass.proofs.TraceLaws.{sums_kept}
@@ -61,3 +62,19 @@ derivation_replaced x y b t d fine fine' wires same e more r =
     moved x y t d r.continued (subst (λ gs. IsRewriting n x.body.gates gs t) (sym gates) (sums_made n x.body.gates b.gates t fine fine2 same e more)) r.turn
     (λ on. subst (λ gs. IsTraced n x.body.gates gs t x.steps y.steps) (sym gates)
     (IsTraced_sums n x.body.gates b.gates t x.steps y.steps (record { fine = fine2; same = same; becomes = refl; turn = e }) (r.steps on)))
+
+pub derivation_gone_on : (x b y : Derivation) → IsDerivation x → IsDerivation b → IsBranch x b → IsContinued x y → y.body ≡ b.body → y.turn ≡ (x.turn + b.turn) % 8 →
+    y.steps ≡ x.steps ++ b.steps → IsDerivation y
+derivation_gone_on x b y d e br c body turn steps =
+    let n = x.body.wires in
+    let gs : List Gate = x.body.gates in
+    let gates : b.body.gates ≡ y.body.gates = sym (ap (λ (k : Body). k.gates) body) in
+    moved x y b.turn d c
+    (subst (λ hs. IsRewriting n gs hs b.turn) gates (subst (λ hs. IsRewriting n hs b.body.gates b.turn) br.source
+    (subst (λ m. IsRewriting m b.source b.body.gates b.turn) br.wires e.law))) turn
+    (λ on. record {
+      added = b.steps;
+      grown = steps;
+      steps = subst (λ hs. AreSteps n gs b.steps hs b.turn) gates (subst (λ hs. AreSteps n hs b.steps b.body.gates b.turn) br.source
+          (subst (λ m. AreSteps m b.source b.steps b.body.gates b.turn) br.wires (e.traced (br.told ∙ on))));
+    })

@@ -3,6 +3,7 @@
 --                      the steps
 --     IsDerivation d   the gates come from the source by a rewriting of that turn, and if steps are told, they lead there
 --     IsContinued x y  y has the source and the wires of x, and tells steps if x does
+--     IsBranch x y     y began where x stands, on the wires of x, and tells steps if x does
 --     IsStepped s t x y    one step: s leads from the gates of x to those of y, and takes the turn t
 --     IsReplacedBy t x b y  the circuit b in place of that of x, with the turn t; the step is told if the gates are others
 --     IsCompacted x y      nothing has changed but slots
@@ -33,6 +34,11 @@ pub record IsDerivation (d : Derivation) : Type 0 where
 
 pub record IsContinued (x y : Derivation) : Type 0 where
   pub source : y.source ≡ x.source
+  pub wires : y.body.wires ≡ x.body.wires
+  pub told : y.told ≡ x.told
+
+pub record IsBranch (x y : Derivation) : Type 0 where
+  pub source : y.source ≡ x.body.gates
   pub wires : y.body.wires ≡ x.body.wires
   pub told : y.told ≡ x.told
 

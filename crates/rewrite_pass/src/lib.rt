@@ -6,10 +6,10 @@
 //! A rule ([`Rule`]) finds a local change of a few gates; [`Sweep`] makes a pass of a rule, and
 //! [`Then`], [`Round`], [`WhileSmaller`] and [`Settle`] make passes of passes. They name no gate: what they
 //! promise follows from what their parts promise.
-//! A pass that is [`Traced`] also tells its steps ([`Trace`]): steps of a table (`specs/Traces.antt`) that lead from the circuit
-//! to the result, which anyone can check again.
-//! A [`Rewriting`] is a circuit that changes by these steps alone: it keeps the law, the turn and the steps itself, so a pass on
-//! it proves its shape and what it has kept, and tells its steps or doesn't by one body.
+//! A [`Rewriting`] is a circuit that changes by steps of a table alone (`specs/Traces.antt`): it keeps the law, the turn and the
+//! steps itself. Each pass is one body on it ([`Pass::rewrite`]), silent or told, and proves its shape and what it has kept.
+//! A pass that is [`Traced`], as each is, tells its steps ([`Trace`]): they lead from the circuit to the result, which anyone can
+//! check again.
 //! [`next_gate`], [`next_is`] and [`prev_is`] go along the wires of a circuit, for rules and for a check of their steps.
 //!
 //! A circuit is always fine, so no pass refuses one: the only error is want of memory.
@@ -25,15 +25,13 @@ mod rewriting;
 mod rule;
 mod sweep;
 mod trace;
-mod traced;
 mod walks;
 mod wires;
 
 pub use combine::{Round, Settle, Then, WhileSmaller};
-pub use pass::{KeepsPairs, MayStay, Pass, Shrinks};
+pub use pass::{KeepsPairs, MayStay, Pass, Shrinks, Traced};
 pub use rewriting::Rewriting;
 pub use rule::{Change, Edit, NumberedRule, Rule};
 pub use sweep::Sweep;
 pub use trace::{Trace, TraceStep};
-pub use traced::Traced;
 pub use wires::{SlotGate, next_gate, next_is, prev_is};

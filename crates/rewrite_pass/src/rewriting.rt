@@ -1,12 +1,12 @@
 //! A circuit while it is rewritten: it changes by steps alone, and this is the one place where their law is kept.
 
-ghost use Rattle.std.specs.Prelude.{◌≡◌, ◌<◌, ℕ, [], true, OnErr, OnOk};
+ghost use Rattle.std.specs.Prelude.{◌≡◌, ◌<◌, ℕ, [], true, IfOk, OnErr, OnOk};
 ghost use Rattle.circuit_list.specs.Slots.{IsLive, place_of};
 ghost use Rattle.commute_rules.specs.Cancels.{with_phase};
 ghost use Rattle.commute_rules.specs.declared.Cancel.TheVariants as cancelling;
 ghost use Rattle.commute_rules.specs.Reducible.{IsReducible};
 ghost use Rattle.path_parity.specs.NamedSums.{SamePathSum};
-ghost use Rattle.rewrite_pass.specs.Derivations.{HasNoMore, IsCompacted, CancelsTo, IsReplacedBy, IsStepped};
+ghost use Rattle.rewrite_pass.specs.Derivations.{HasNoMore, IsBranch, IsCompacted, IsContinued, CancelsTo, IsReplacedBy, IsStepped};
 ghost use Rattle.rewrite_pass.specs.Edits.{IsChange, changed};
 ghost use Rattle.rewrite_pass.specs.Law.{IsRewriting};
 ghost use Rattle.rewrite_pass.specs.Traces.{Step, AreSteps, IsRuleStep, constants_turn};
@@ -165,6 +165,30 @@ impl Rewriting {
         body.facts();
         self.body = body;
         self.turn = turn_sum(self.turn, turn);
+        Ok(())
+    }
+
+    /// A circuit that begins where this one stands, to be gone on with or dropped; its steps are told if this one's are.
+    pub fn branch(&self, alloc: Global) -> Result<Rewriting, AllocError>
+        ensures branch { IfOk result (IsBranch self.now) }
+        ensures body { IfOk result (λ r. r.body ≡ self.now.body) }
+    {
+        let copy = self.body.copy()?;
+        Ok(Rewriting::new(alloc, copy, self.log.told))
+    }
+
+    /// What was made in a branch of this circuit comes in place of what stands, with its steps. If memory runs out, nothing
+    /// changes.
+    pub fn go_on(&mut self, branch: Rewriting) -> Result<(), AllocError>
+        requires branch { IsBranch self.old branch }
+        ensures continued { OnOk result (IsContinued self.old self.new) }
+        ensures body { OnOk result (self.new.body ≡ branch.body) }
+        ensures err { OnErr result (self.new ≡ self.old) }
+    {
+        let mut steps = branch.log.steps;
+        self.log.steps.append(&mut steps)?;
+        self.body = branch.body;
+        self.turn = turn_sum(self.turn, branch.turn);
         Ok(())
     }
 

@@ -13,11 +13,10 @@
 mod row_hash;
 mod totals;
 
-ghost use Rattle.std.specs.Prelude.{◌≡◌, ◌%◌, All, IfOk, true};
+ghost use Rattle.std.specs.Prelude.{◌≡◌, ◌%◌, All, IfOk, OnOk};
 ghost use Rattle.circuit_list.specs.Gates.{IsFine, ops};
 ghost use Rattle.path_parity.specs.PathSum.{own_labels, phase_labels};
-ghost use Rattle.rewrite_pass.specs.Law.{IsRewriting, IsSmallerOrSame};
-ghost use Rattle.rewrite_pass.specs.Traces.{AreSteps};
+ghost use Rattle.rewrite_pass.specs.Law.{IsSmallerOrSame};
 ghost use Rattle.rotation_merge.specs.Merging.{merge_constant_of, totals_of};
 ghost use Rattle.rotation_merge.specs.Sums.{AreNoted, HasTotals, IsMerged, rows};
 ghost use Rattle.unitary_model.specs.Operations.{t_count};
@@ -25,7 +24,7 @@ ghost use Rattle.unitary_model.specs.OddPaths.{odd_paths};
 
 use circuit_list::{Circuit, Passed};
 use path_parity::Walk;
-use rewrite_pass::{MayStay, Pass, Rewriting, Shrinks, Trace, Traced};
+use rewrite_pass::{MayStay, Pass, Rewriting, Shrinks};
 use std::alloc::{AllocError, Global};
 use totals::Totals;
 
@@ -40,22 +39,10 @@ impl Pass for MergePass {
 
     ghost kept = { λ _ old new. IsSmallerOrSame old new };
 
-    fn run(&self, alloc: Global, body: Circuit) -> Result<Passed, AllocError> {
-        let (passed, _step) = merged(alloc, body, false)?;
-        Ok(passed)
-    }
-}
-
-impl Traced for MergePass {
-    fn run_traced(
-        &self,
-        alloc: Global,
-        body: Circuit,
-        trace: &mut Trace,
-    ) -> Result<Passed, AllocError> {
-        let (passed, mut step) = merged(alloc, body, true)?;
-        trace.append(&mut step)?;
-        Ok(passed)
+    fn rewrite(&self, alloc: Global, circuit: &mut Rewriting) -> Result<(), AllocError> {
+        let passed = merged(alloc, circuit.body())?;
+        circuit.replace(passed.body, passed.turn)?;
+        Ok(())
     }
 }
 
@@ -69,19 +56,14 @@ impl Shrinks for MergePass {
     ghost shrinks = { λ _ _ _ holds. holds };
 }
 
-/// What [`MergePass`] gives, and the step that led to it, if it is told: the result has the path sum of the circuit.
-fn merged(alloc: Global, body: Circuit, told: bool) -> Result<(Passed, Trace), AllocError>
-    ensures wires { IfOk result (λ r. r.0.body.wires ≡ body.wires) }
-    ensures law { IfOk result (λ r. IsRewriting body.wires body.gates r.0.body.gates r.0.turn) }
-    ensures shape { IfOk result (λ r. t_count (ops r.0.body.gates) ≡ odd_paths body.wires (ops r.0.body.gates)) }
-    ensures kept { IfOk result (λ r. IsSmallerOrSame body.gates r.0.body.gates) }
-    ensures steps { IfOk result (λ r. told ≡ true → AreSteps body.wires body.gates r.1 r.0.body.gates r.0.turn) }
+/// The circuit with its phases merged, and its turn.
+fn merged(alloc: Global, body: &Circuit) -> Result<Passed, AllocError>
+    ensures fine { OnOk result (All (IsFine body.now.wires) body.now.gates) }
+    ensures merged { IfOk result (IsMerged body.now.wires body.now.gates) }
 {
-    let totals = gathered(alloc, &body)?;
-    let passed = rewritten(alloc, &body, totals)?;
-    let mut circuit = Rewriting::new(alloc, body, told);
-    circuit.replace(passed.body, passed.turn)?;
-    Ok(circuit.finish())
+    let totals = gathered(alloc, body)?;
+    let passed = rewritten(alloc, body, totals)?;
+    Ok(passed)
 }
 
 /// The totals of a circuit, and the labels of its phases.
