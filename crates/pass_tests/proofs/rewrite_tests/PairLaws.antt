@@ -1,4 +1,5 @@
 -- Laws of the tests' own pass, which takes the two NOT away with which a list begins.
+--     same_wire               the second is on the wire of the first
 --     pair_reducible, pair_outcome     they cancel, with the turn 4
 use Rattle.std.proofs.Common.{◌≡◌, ℕ, ◌<◌, cond, List, slice_get, refl, sym, ◌∙◌, ap, arith, Some}
 use Rattle.std.proofs.lemmas.Option.{same_Some}
@@ -12,6 +13,9 @@ use Rattle.rewrite_pass.specs.Derivations.{CancelsTo}
 
 cancelled : (q : ℕ) → cancel_of (X q) (X q) ≡ Both 4
 cancelled q = ap (λ b. cond b (Both 4) No) (eq-eqb q q refl)
+
+pub same_wire : (q r : ℕ) (gs : List Gate) → slice_get gs 1 ≡ Some (X r) → q ≡ r → slice_get gs 1 ≡ Some (X q)
+same_wire q r gs a e = a ∙ ap (λ w. Some (X w)) (sym e)
 
 pub pair_reducible : (q : ℕ) (gs : List Gate) → slice_get gs 0 ≡ Some (X q) → slice_get gs 1 ≡ Some (X q) → IsReducible gs 0 1
 pair_reducible q gs a b = record {
