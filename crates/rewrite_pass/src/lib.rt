@@ -29,6 +29,7 @@ mod walks;
 mod wires;
 
 pub use combine::{Round, Settle, Then, WhileSmaller};
+pub use make::make_change;
 pub use pass::{KeepsPairs, MayStay, Pass, Shrinks, Traced};
 pub use rewriting::Rewriting;
 pub use rule::{Change, Edit, NumberedRule, Rule};
