@@ -1,26 +1,20 @@
 //! Hadamard reduction: seven local rules, each of which takes H away, and the pass that they make.
 //!
 //! In goes a circuit and a place; out comes the change for the window that begins there, or nothing where none does
-//! ([`HadamardRules`]). Or in goes a circuit, and out comes one in which no window is left ([`HadamardPass`]). A window is a few
-//! gates around H that follow each other on their wires, whatever stands between on others (`specs/Windows.antt`): H, a phase
-//! or X, H on one wire; H on both wires of a CNOT, before it and behind it; H and phases around the target of a CNOT. It begins
-//! at the place of its first gate. The contract says that nothing is found exactly where no window begins, that a change keeps
-//! the amplitudes up to its power of w and adds no T gate, CNOT or odd path parity, and that it leaves fewer H.
+//! ([`HadamardRules`]). Or in goes a circuit, and out comes one in which no window is left ([`HadamardPass`]). The windows, and
+//! how they are found and changed, are those of `rule_windows`, which a checker of traces asks too. The contract says that
+//! nothing is found exactly where no window begins, that a change keeps the amplitudes up to its power of w and adds no T gate,
+//! CNOT or odd path parity, and that it leaves fewer H.
 //!
-//! A circuit is always fine, so none is refused; the only error, of the pass alone, is want of memory. A look at a place takes
-//! no memory, and in a linked circuit on up to 64 wires as many steps as the logarithm of the number of gates.
+//! A circuit is always fine, so none is refused; the only error, of the pass alone, is want of memory.
 #![tactic(auto)]
-
-mod change;
-mod window;
 
 ghost use Rattle.std.specs.Prelude.{◌<◌};
 
-use change::{change_of, number_of};
 use circuit_list::{Circuit, Slot};
 use rewrite_pass::{Change, NumberedRule, Pass, Rewriting, Rule, Sweep};
+use rule_windows::change_at;
 use std::alloc::{AllocError, Global};
-use window::window_at;
 
 /// The rules of Hadamard reduction (Nam et al. 2018, section 4.1). Each gate that a window is left with stands in the place of
 /// one of the window's gates; the turn is the power of w that the change takes:
@@ -52,19 +46,15 @@ impl Rule for HadamardRules {
     }
 
     fn at_slot(&self, body: &Circuit, place: usize, slot: Slot) -> Option<Change> {
-        // it says that the gates are fine, and the slots in order
-        body.facts();
-        let window = window_at(body, slot)?;
-        Some(change_of(place, window))
+        let found = change_at(body, place, slot)?;
+        Some(found.change)
     }
 }
 
 impl NumberedRule for HadamardRules {
     fn number(&self, body: &Circuit, place: usize) -> u8 {
-        // it says that the gates are fine, and the slots in order
-        body.facts();
-        let window = window_at(body, body.slot(place)).unwrap();
-        number_of(window)
+        let found = change_at(body, place, body.slot(place)).unwrap();
+        found.number
     }
 }
 

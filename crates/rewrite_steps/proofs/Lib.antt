@@ -1,4 +1,2 @@
 pub mod PairLaws
 pub mod KnownLaws
-pub mod EditLaws
-pub mod RuleLaws

@@ -2,4 +2,3 @@
 pub mod Known
 -- ---- working forms
 pub mod Pairs
-pub mod RuleWindows

@@ -1,10 +1,8 @@
-use Rattle.std.proofs.Common.{Option, MatchOption, sym, subst}
+use Rattle.std.proofs.Common.{IfSome, Option, sym, subst}
 use Rattle.rewrite_pass.specs.Edits.{changed}
 use Rattle.rewrite_pass.specs.Traces.{IsRuleStep}
-use Rattle.rewrite_pass.specs.Windows.{IsWindow}
-use Rattle.hadamard_reduce.specs.declared.window.Window.{Window}
-use Rattle.hadamard_reduce.specs.Found.{IsFound}
-use Rattle.hadamard_reduce.proofs.FoundLaws.{step_found}
+use Rattle.rewrite_pass.proofs.AlikeLaws.{numbers_alike}
+use Rattle.rule_windows.specs.declared.rules.NumberedChange.{NumberedChange}
 use Rattle.hadamard_reduce.proofs.HadamardRulesNumberedRule.number.Goals as goal
 
 -- windows at one place are of one rule, so the step is that of the window found
@@ -12,9 +10,8 @@ pub returns : goal.returns
 returns c =
     let gs = c.args.body.now.gates in
     let i = c.args.place in
-    let w = c.unwrap-window.result in
-    let found = subst (λ (o : Option Window). MatchOption o (IsWindow gs i → ⊥) (IsFound gs i)) c.unwrap-window.ensures
-    (subst (λ n. MatchOption c.window_at.result (IsWindow gs n → ⊥) (IsFound gs n)) c.slot.ensures.place c.window_at.ensures.found) in
+    let f = c.unwrap-found.result in
+    let step = subst (λ (o : Option NumberedChange). IfSome o (λ x. IsRuleStep x.number i gs (changed x.change gs) x.change.turn)) c.unwrap-found.ensures c.change_at.ensures.step in
     record {
-      number = λ d made. subst (λ k. IsRuleStep k i gs (changed d gs) d.turn) (sym c.number_of.ensures.value) (step_found gs (changed d gs) i d.turn made.0 w found made.1);
+      number = λ d made. subst (λ k. IsRuleStep k i gs (changed d gs) d.turn) (numbers_alike gs (changed d gs) (changed f.change gs) i made.0 f.number d.turn f.change.turn made.1 step) made.1;
     }

@@ -9,10 +9,10 @@ use Rattle.std.specs.Prelude.{ℕ, ◌≤◌, cond, nat_eq, List}
 use Rattle.circuit_list.specs.declared.Gate.{Gate}
 use Rattle.circuit_list.specs.declared.Gate.TheVariants.{H, X, P}
 use Rattle.rewrite_pass.specs.declared.rule.Change.{Change}
-use Rattle.hadamard_reduce.specs.declared.window.Middle.{Middle}
-use Rattle.hadamard_reduce.specs.declared.window.Middle.TheVariants.{S, Sdg, Z, Not}
-use Rattle.hadamard_reduce.specs.declared.window.Window.{Window}
-use Rattle.hadamard_reduce.specs.declared.window.Window.TheVariants.{Turned, Surrounded, Conjugated}
+use Rattle.rule_windows.specs.declared.window.Middle.{Middle}
+use Rattle.rule_windows.specs.declared.window.Middle.TheVariants.{S, Sdg, Z, Not}
+use Rattle.rule_windows.specs.declared.window.Window.{Window}
+use Rattle.rule_windows.specs.declared.window.Window.TheVariants.{Turned, Surrounded, Conjugated}
 use Rattle.rewrite_pass.specs.Edits.{removing, putting}
 use Rattle.rewrite_pass.specs.WindowPlaces.{IsAroundOneAt, IsConjugatedAt, IsSurroundedAt, three_edits, surrounded_change, conjugated_change}
 

@@ -3,7 +3,7 @@
 ghost use Rattle.std.specs.Prelude.{◌≡◌};
 ghost use Rattle.rewrite_pass.specs.Edits.{putting, removing};
 ghost use Rattle.rewrite_pass.specs.WindowPlaces.{three_edits};
-ghost use Rattle.hadamard_reduce.specs.Found.{HasFinePhase, change_of, rule_number};
+ghost use Rattle.rule_windows.specs.Found.{HasFinePhase, change_of, rule_number};
 
 use crate::window::{Middle, Window};
 use circuit_list::Gate;
