@@ -36,9 +36,10 @@ pub fn change_at(body: &Circuit, place: usize, slot: Slot) -> Option<NumberedCha
     // it says that the gates are fine, and the slots in order
     body.facts();
     let window = window_at(body, slot)?;
-    let number = number_of(window);
-    let change = change_of(place, window);
-    Some(NumberedChange { number, change })
+    Some(NumberedChange {
+        number: number_of(window),
+        change: change_of(place, window),
+    })
 }
 
 /// Changes the window of a rule that begins at a place, and gives the turn. None where there is none; then nothing changes.
