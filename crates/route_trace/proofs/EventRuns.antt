@@ -4,7 +4,6 @@
 --     at p q gs w t       the state where the wires began at p and stand at q, the gates gs are left, and w was appended, with the turn t
 --     emit-run, swap-run  a gate that is emitted, a swap
 --     events-run          a run of the router
---     run-there           the places and qubits of its events are there
 use Rattle.std.proofs.Common.{◌≡◌, ◌≢◌, ℕ, zero, suc, ◌+◌, ◌%◌, ◌^◌, ◌<◌, ◌≤◌, ◌⊎◌, ◌||◌, inl, inr, Bool, not, true, false, cond, List, [], ◌∷◌, ◌++◌, Option, Some, length, map, refl, sym, ◌∙◌, subst, arith, append_assoc, append-nil, slice_get, slice_index, take}
 use Rattle.std.specs.Prelude.{IsTrue}
 use Rattle.std.specs.List.{list_any, remove}
@@ -21,13 +20,14 @@ use Rattle.sabre_route.specs.Emission.{cx_gates, cx_turn, emitted, emitted_turn,
 use Rattle.sabre_route.specs.Machine.{Event, Emit as EmitEvent, Swap as SwapEvent, IsChosen, Run, State as Machine, emission, exchange}
 use Rattle.sabre_route.specs.Routing.{turn_sum, written_gates}
 use Rattle.sabre_route.specs.Search.{is_free, shares}
-use Rattle.sabre_route.specs.Telling.{told}
+use Rattle.sabre_route.specs.declared.events.Event.TheVariants.{Emit as ToldEmit, Back as ToldBack, Swap as ToldSwap, Turn as ToldTurn}
+use Rattle.sabre_route.specs.Telling.{emission_told, swap_told, told}
 use Rattle.sabre_route.proofs.EmissionLaws.{low_order-is}
 use Rattle.trace_model.specs.Lines.{Line, Emit, Back, Swap, Turn}
 use Rattle.trace_model.specs.Proves.{Claim, IsFirst, Routed, Runs, ProofState, on_qubits, swap_cx, swap_reversed_cx, reversed_cx}
 use Rattle.unitary_model.specs.Placement.{exchanged}
 use Rattle.unitary_model.proofs.ReachedLaws.{exchanged-comm}
-use Rattle.route_trace.specs.EventLines.{AreThere, emitted_line, event_lines, swapped_line}
+use Rattle.route_trace.specs.EventLines.{event_lines, line_of}
 use Rattle.route_trace.proofs.StepRuns.{remove-short}
 
 abbrev pub Near : Coupling → Type 0
@@ -88,12 +88,12 @@ one-back e p q gs w t j c s ls behind u small first r = (
 
 cx-run : (e : Claim) (p q : List ℕ) (gs w : List Gate) (t j c s : ℕ) (ls : List Line) (behind : List (List ℕ)) (u : ProofState) → t < 8 → j < 2 ^ 32 → IsFirst gs j (Cx c s) → (b : Bool) →
     Runs e 1 (at p q (remove gs j) (w ++ cond b (Cx (slice_index q c) (slice_index q s) ∷ []) (reversed_cx (slice_index q c) (slice_index q s))) ((t + cond b 0 4) % 8)) ls behind u →
-    Runs e 1 (at p q gs w t) (cond b (Emit j) (Back j) ∷ ls) behind u
+    Runs e 1 (at p q gs w t) (line_of (cond b (ToldEmit j) (ToldBack j)) ∷ ls) behind u
 cx-run e p q gs w t j c s ls behind u lt small first true r = one-emit e p q gs w t j (Cx c s) ls behind u lt small first r
 cx-run e p q gs w t j c s ls behind u lt small first false r = one-back e p q gs w t j c s ls behind u small first r
 
 emit-run : (e : Claim) (es : List (ℕ × ℕ)) (p q : List ℕ) (gs w : List Gate) (t j : ℕ) (g : Gate) (ls : List Line) (behind : List (List ℕ)) (u : ProofState) → t < 8 → j < 2 ^ 32 → IsFirst gs j g →
-    Runs e 1 (at p q (remove gs j) (w ++ emitted es q g) ((t + emitted_turn es q g) % 8)) ls behind u → Runs e 1 (at p q gs w t) (emitted_line es q (Some g) j ∷ ls) behind u
+    Runs e 1 (at p q (remove gs j) (w ++ emitted es q g) ((t + emitted_turn es q g) % 8)) ls behind u → Runs e 1 (at p q gs w t) (line_of (emission_told es q j g) ∷ ls) behind u
 unfolding emitted emitted_turn cx_gates cx_turn
 emit-run e es p q gs w t j (H v) ls behind u lt small first r = one-emit e p q gs w t j (H v) ls behind u lt small first r
 emit-run e es p q gs w t j (X v) ls behind u lt small first r = one-emit e p q gs w t j (X v) ls behind u lt small first r
@@ -102,7 +102,7 @@ emit-run e es p q gs w t j (Cx c s) ls behind u lt small first r = cx-run e p q 
 
 one-swap : (e : Claim) (p q : List ℕ) (gs w : List Gate) (t a b x y : ℕ) (ls : List Line) (behind : List (List ℕ)) (u : ProofState) → e.qubits ≤ 2 ^ 32 → x < e.qubits → y < e.qubits → x ≢ y → exchanged x y ≡ exchanged a b → (s : Bool) →
     Runs e 1 (at p (map (exchanged a b) q) gs (w ++ (Cx x y ∷ (cond s (Cx y x ∷ []) (H y ∷ H x ∷ Cx x y ∷ H y ∷ H x ∷ []) ++ Cx x y ∷ []))) ((t + cond s 0 4) % 8)) ls behind u →
-    Runs e 1 (at p q gs w t) (cond s (Swap x y) (Turn x y) ∷ ls) behind u
+    Runs e 1 (at p q gs w t) (line_of (cond s (ToldSwap x y) (ToldTurn x y)) ∷ ls) behind u
 one-swap e p q gs w t a b x y ls behind u le hx hy ne f true r = (
   at p (map (exchanged a b) q) gs (w ++ swap_cx x y) ((t + 0) % 8),
   (
@@ -129,7 +129,7 @@ pair n a b x y ha hb ne (inl (e, f)) = record { first = omega (arith, e, ha); se
 pair n a b x y ha hb ne (inr (e, f)) = record { first = omega (arith, e, hb); second = omega (arith, f, ha); differ = λ d. ne (sym f ∙ sym d ∙ e); same = (λ z. exchanged (e z) (f z)) ∙ exchanged-comm b a }
 
 swap-run : (e : Claim) (es : List (ℕ × ℕ)) (p q : List ℕ) (gs w : List Gate) (t a b : ℕ) (ls : List Line) (behind : List (List ℕ)) (u : ProofState) → e.qubits ≤ 2 ^ 32 → a < e.qubits → b < e.qubits → a ≢ b → is_near es a b ≡ true →
-    Runs e 1 (at p (map (exchanged a b) q) gs (w ++ swap_gates es a b) ((t + swap_turn es a b) % 8)) ls behind u → Runs e 1 (at p q gs w t) (swapped_line es a b ∷ ls) behind u
+    Runs e 1 (at p (map (exchanged a b) q) gs (w ++ swap_gates es a b) ((t + swap_turn es a b) % 8)) ls behind u → Runs e 1 (at p q gs w t) (line_of (swap_told es a b) ∷ ls) behind u
 unfolding swap_gates swap_turn cx_gates cx_turn
 swap-run e es p q gs w t a b ls behind u le ha hb ne near r =
     let x : ℕ = (low_order es a b).0 in
@@ -153,7 +153,7 @@ grouped e p q gs w x y t a b ls behind u r =
 
 pub events-run : (ahead : Ahead) (e : Claim) (d : Coupling) (s u : Machine) (xs : List Event) (p : List ℕ) (w : List Gate) (t : ℕ) (ls : List Line) (behind : List (List ℕ)) (z : ProofState) → Near d → e.qubits ≡ d.size → d.size ≤ 2 ^ 32 → length s.rest ≤ 2 ^ 32 → t < 8 →
     Run ahead d s xs u → Runs e 1 (at p u.placement u.rest (w ++ written_gates d.edges s.placement xs) ((t + turn_sum d.edges s.placement xs) % 8)) ls behind z →
-    Runs e 1 (at p s.placement s.rest w t) (event_lines d.edges s.placement s.rest (map told xs) ++ ls) behind z
+    Runs e 1 (at p s.placement s.rest w t) (event_lines (told d.edges s.placement xs) ++ ls) behind z
 unfolding emission exchange
 events-run ahead e d s u [] p w t ls behind z near eq le lr lt h r =
     subst (λ (x : Machine). Runs e 1 (at p x.placement x.rest w t) ls behind z) (sym h)
@@ -166,13 +166,12 @@ events-run ahead e d s u (EmitEvent j g ∷ xs) p w t ls behind z near eq le lr 
     let can = h.1.can in
     let v : List Gate = emitted es q g in
     let k : ℕ = emitted_turn es q g in
-    let rest : List Line = event_lines es q (remove s.rest j) (map told xs) ++ ls in
+    let rest : List Line = event_lines (told es q xs) ++ ls in
     let small : j < 2 ^ 32 = omega (arith, lr, slice_get_within s.rest j g can.there) in
-    subst (λ (o : Option Gate). Runs e 1 (at p q s.rest w t) (emitted_line es q o j ∷ rest) behind z) (sym can.there)
-    (emit-run e es p q s.rest w t j g rest behind z lt small (free-first s.rest j g can.there can.first)
+    emit-run e es p q s.rest w t j g rest behind z lt small (free-first s.rest j g can.there can.first)
     (events-run ahead e d m u xs p (w ++ v) ((t + k) % 8) ls behind z near eq le (omega (arith, lr, remove-short s.rest j)) (omega arith)
     (subst (λ (x : Machine). Run ahead d x xs u) h.1.after h.2)
-    (grouped e p u.placement u.rest w v (written_gates es q xs) t k (turn_sum es q xs) ls behind z r)))
+    (grouped e p u.placement u.rest w v (written_gates es q xs) t k (turn_sum es q xs) ls behind z r))
 events-run ahead e d s u (SwapEvent a b ∷ xs) p w t ls behind z near eq le lr lt h r =
     let es = d.edges in
     let q : List ℕ = map (exchanged a b) s.placement in
@@ -181,17 +180,8 @@ events-run ahead e d s u (SwapEvent a b ∷ xs) p w t ls behind z near eq le lr 
     let on = near a b n in
     let v : List Gate = swap_gates es a b in
     let k : ℕ = swap_turn es a b in
-    let rest : List Line = event_lines es q s.rest (map told xs) ++ ls in
+    let rest : List Line = event_lines (told es q xs) ++ ls in
     swap-run e es p s.placement s.rest w t a b rest behind z (omega (arith, eq, le)) (omega (arith, eq, on.0)) (omega (arith, eq, on.1)) on.2 n
     (events-run ahead e d m u xs p (w ++ v) ((t + k) % 8) ls behind z near eq le lr (omega arith)
     (subst (λ (x : Machine). Run ahead d x xs u) h.1.after h.2)
     (grouped e p u.placement u.rest w v (written_gates es q xs) t k (turn_sum es q xs) ls behind z r))
-
-pub run-there : (ahead : Ahead) (d : Coupling) (s u : Machine) (xs : List Event) → Near d → Run ahead d s xs u → AreThere d.size s.rest (map told xs)
-unfolding emission exchange
-run-there ahead d s u [] near h = tt
-run-there ahead d s u (EmitEvent j g ∷ xs) near h =
-    (slice_get_within s.rest j g h.1.can.there, run-there ahead d (emission s j g) u xs near (subst (λ (x : Machine). Run ahead d x xs u) h.1.after h.2))
-run-there ahead d s u (SwapEvent a b ∷ xs) near h =
-    let on = near a b (chosen-near ahead d s a b h.1.chosen) in
-    ((on.0, on.1), run-there ahead d (exchange d.size s a b) u xs near (subst (λ (x : Machine). Run ahead d x xs u) h.1.after h.2))

@@ -114,13 +114,13 @@ below k = omega arith
 
 trace-runs : (ahead : Ahead) (d : Coupling) (ss : List Step) (n m B : ℕ) (gs : List Gate) (given : List ℕ) (r : Router) (xs : List Told) (turn : ℕ) → Near d → d.size ≤ 2 ^ 32 → n ≤ d.size → IsPlacement d.size given → AllByRecursion (IsFine m) r.body.gates →
     IsRoutedBy ahead d gs given r xs → turn < 8 → length (steps_text ss) ≤ B → B < 2 ^ 32 → (e : Claim) (t : ℕ) → e.wires ≡ n → e.qubits ≡ d.size → length (expanded e.source) ≤ B → AreSteps e.wires (expanded e.source) ss gs t → e.target ≡ ops r.body.gates →
-    turn ≡ (turn_of e.source + (t + r.turn)) % 8 → Runs e 1 Unread (trace_lines ss given (event_lines d.edges given gs xs) turn) [] (Proved given r.last turn)
+    turn ≡ (turn_of e.source + (t + r.turn)) % 8 → Runs e 1 Unread (trace_lines ss given (event_lines xs) turn) [] (Proved given r.last turn)
 trace-runs ahead d ss n m B gs given r xs turn near le fits placed fine h lt few lb e t wires qubits source steps target whole =
     let f : ℕ = turn_of e.source in
     let j : ℕ = (f + t) % 8 in
     let run = h.routed in
     let es = d.edges in
-    let ls : List Line = event_lines es given gs xs in
+    let ls : List Line = event_lines xs in
     let z : ProofState = Proved given r.last turn in
     let more : ℕ = (j + turn_sum es given run.events) % 8 in
     let small : AllByRecursion (λ k. k < 2 ^ 32) given = entries-small given (λ i l. omega (arith, le, placed.within i (omega (arith, l, placed.long)))) in
@@ -139,7 +139,7 @@ trace-runs ahead d ss n m B gs given r xs turn near le fits placed fine h lt few
                   (All-from_recursion (λ k. k < 2 ^ 32) given small, tt),
                   (
                     record { fits = omega (arith, wires, qubits, fits); placement = fit; after = refl },
-                    subst (λ (ys : List Told). Runs e 1 (at given given gs [] j) (event_lines es given gs ys ++ End turn ∷ []) [] z) (sym h.events)
+                    subst (λ (ys : List Told). Runs e 1 (at given given gs [] j) (event_lines ys ++ End turn ∷ []) [] z) (sym h.events)
                         (events-run ahead e d (start given gs) run.final run.events given [] j (End turn ∷ []) [] z near qubits le (omega (arith, size, lb)) (below (f + t)) run.run.steps last),
                   ),
                 ),
@@ -149,13 +149,13 @@ trace-runs ahead d ss n m B gs given r xs turn near le fits placed fine h lt few
     )
 
 pub trace-proves : (ahead : Ahead) (d : Coupling) (ss : List Step) (n m : ℕ) (gs : List Gate) (given : List ℕ) (r : Router) (xs : List Told) (turn : ℕ) (text : List ℕ) → Near d → d.size ≤ 256 → n ≤ d.size → IsPlacement d.size given → All (IsFine m) r.body.gates →
-    IsRoutedBy ahead d gs given r xs → turn < 8 → text ≡ ended (all_spelt (trace_lines ss given (event_lines d.edges given gs xs) turn)) → length text < 2 ^ 31 → (e : Claim) (t : ℕ) → e.wires ≡ n → e.qubits ≡ d.size → length e.source ≤ 65536 →
+    IsRoutedBy ahead d gs given r xs → turn < 8 → text ≡ ended (all_spelt (trace_lines ss given (event_lines xs) turn)) → length text < 2 ^ 31 → (e : Claim) (t : ℕ) → e.wires ≡ n → e.qubits ≡ d.size → length e.source ≤ 65536 →
     All (IsFineOp e.wires) e.source → AreSteps e.wires (expanded e.source) ss gs t → e.target ≡ ops r.body.gates → turn ≡ (turn_of e.source + (t + r.turn)) % 8 → Proves e text given r.last turn
 trace-proves ahead d ss n m gs given r xs turn text near le fits placed fine h lt same short e t wires qubits source ops-fine steps target whole =
-    let ls : List Line = trace_lines ss given (event_lines d.edges given gs xs) turn in
+    let ls : List Line = trace_lines ss given (event_lines xs) turn in
     let run = trace-runs ahead d ss n m (2 ^ 31) gs given r xs turn near (omega (arith, le)) fits placed (recursion_from_All (IsFine m) r.body.gates fine) h lt
-    (omega (arith, short, ap length same, steps-within ss given (event_lines d.edges given gs xs) turn)) (omega arith) e t wires qubits (omega (arith, source, length-expanded e.source)) steps target whole in
+    (omega (arith, short, ap length same, steps-within ss given (event_lines xs) turn)) (omega arith) e t wires qubits (omega (arith, source, length-expanded e.source)) steps target whole in
     let lines : lines_of text ≡ all_spelt ls = ap lines_of same ∙ lines-ended (all_spelt ls) (spelt-plain ls (runs-small e Unread ls [] (Proved given r.last turn) run)) in
-    let rest : List Line = map (λ s. Rewrite s) ss ++ (Place given ∷ (event_lines d.edges given gs xs ++ End turn ∷ [])) in
+    let rest : List Line = map (λ s. Rewrite s) ss ++ (Place given ∷ (event_lines xs ++ End turn ∷ [])) in
     let named : edition_of (lines_of text) ≡ 1 = ap edition_of lines ∙ edition-first (all_spelt rest) in
     record { lines = ls; text = lines; run = subst (λ v. Runs e v Unread ls [] (Proved given r.last turn)) (sym named) run }

@@ -1,3 +1,2 @@
 -- ---- working forms
 pub mod EventLines
-pub mod Replays

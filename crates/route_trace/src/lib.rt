@@ -2,15 +2,13 @@
 //!
 //! In go the steps that led from the gates of a source to a circuit, that circuit, and its run on a
 //! device; out come the bytes of a trace: a heading, a line or more for each step, the placement at
-//! which the run began, a line for each event, and the turn at the end. The contract of
-//! [`route_trace`] promises that the trace proves what the program claims: that what was written on
-//! the device realises the source, from the placement at the beginning to the one at the end, up to
-//! the turn. A line says more than its event, namely whether a CNOT was turned round, so the run is
-//! gone through once more. There is no bad input; want of memory leaves nothing behind.
+//! which the run began, a line for each event as the router told it, and the turn at the end. The
+//! contract of [`route_trace`] promises that the trace proves what the program claims: that what was
+//! written on the device realises the source, from the placement at the beginning to the one at the
+//! end, up to the turn. There is no bad input; want of memory leaves nothing behind.
 #![tactic(auto)]
 
 mod lines;
-mod replay;
 
 ghost use Rattle.std.specs.Prelude.{◌≡◌, ℕ, ◌+◌, ◌%◌, ◌^◌, ◌<◌, ◌≤◌, All, IfOk, length};
 ghost use Rattle.circuit_list.specs.Gates.{ops};
@@ -22,10 +20,9 @@ ghost use Rattle.trace_model.specs.Lines.{all_spelt};
 ghost use Rattle.trace_model.specs.Proves.{Claim, Proves};
 ghost use Rattle.trace_text.specs.Texts.{ended, lines_of};
 ghost use Rattle.unitary_model.specs.Placement.{IsPlacement};
-ghost use Rattle.route_trace.specs.EventLines.{AreThere, event_lines, trace_lines};
+ghost use Rattle.route_trace.specs.EventLines.{event_lines, trace_lines};
 
-use crate::lines::{push_one, push_place};
-use crate::replay::{Replay, push_events};
+use crate::lines::{push_events, push_one, push_place};
 use circuit_list::Circuit;
 use coupling_map::Device;
 use coupling_map::laws::distances_on_device;
@@ -40,17 +37,11 @@ const MOST_TRACE_BYTES: usize = 1 << 31;
 fn text(
     alloc: Global,
     steps: &Trace,
-    body: &Circuit,
-    device: &Device,
     given: &[u32],
     events: &[Event],
     turn: u8,
 ) -> Result<Vec<u8>, AllocError>
-    requires there { AreThere device.now.size body.now.gates events.now }
-    requires placement { IsPlacement device.now.size given.now }
-    requires fits { body.now.wires ≤ device.now.size }
-    ensures bytes { IfOk result (λ v. v.items ≡ ended (all_spelt
-        (trace_lines steps.now given.now (event_lines device.now.edges given.now body.now.gates events.now) turn))) }
+    ensures bytes { IfOk result (λ v. v.items ≡ ended (all_spelt (trace_lines steps.now given.now (event_lines events.now) turn))) }
     ensures lines { IfOk result (λ v. ended (lines_of v.items) ≡ v.items) }
 {
     let mut bytes = Vec::new(alloc);
@@ -58,8 +49,7 @@ fn text(
     let lines = steps.lines()?;
     bytes.extend_from_slice(&lines)?;
     push_place(&mut bytes, given)?;
-    let replay = Replay::start(alloc, body, device, given)?;
-    push_events(&mut bytes, replay, device, events)?;
+    push_events(&mut bytes, events)?;
     push_one(&mut bytes, b"end", turn as usize)?;
     Ok(bytes)
 }
@@ -67,9 +57,8 @@ fn text(
 /// The bytes of the trace of a routed program, which proves that the program realises its source up
 /// to the turn, whatever source the steps lead to the circuit from.
 ///
-/// It takes about as many steps as there are bytes and gates, and for each event as many more as the
-/// logarithm of the number of gates. The only error is want of memory, which 2^31 bytes or more count
-/// as too; it leaves nothing behind.
+/// It takes about as many steps as there are bytes. The only error is want of memory, which 2^31 bytes or more
+/// count as too; it leaves nothing behind.
 pub fn route_trace(
     alloc: Global,
     steps: &Trace,
@@ -92,12 +81,14 @@ pub fn route_trace(
     ensures lines { IfOk result (λ v. ended (lines_of v.items) ≡ v.items) }
     ensures short { IfOk result (λ v. length v.items < 2 ^ 31) }
 {
+    // the run was over this circuit: what is told of it needs no look at its gates
+    let _body = body;
     // Their contracts say that near qubits are different qubits of the device, and that the gates are
     // fine.
     distances_on_device();
     device.facts();
     routed.body.facts();
-    let bytes = text(alloc, steps, body, device, given, events, turn)?;
+    let bytes = text(alloc, steps, given, events, turn)?;
     if bytes.len() >= MOST_TRACE_BYTES {
         return Err(AllocError);
     }

@@ -3,11 +3,11 @@
 ghost use Rattle.std.specs.Prelude.{◌≡◌, [], ◌∷◌, ◌++◌, codes, decimal, OnOk};
 ghost use Rattle.rewrite_pass.specs.TraceLines.{words};
 ghost use Rattle.trace_text.specs.Texts.{ended};
-ghost use Rattle.trace_model.specs.Lines.{spelt};
-ghost use Rattle.route_trace.specs.EventLines.{line_of};
+ghost use Rattle.trace_model.specs.Lines.{all_spelt, spelt};
+ghost use Rattle.route_trace.specs.EventLines.{event_lines, line_of};
 
-use crate::replay::EventLine;
 use itoa::Buffer;
+use sabre_route::Event;
 use std::alloc::AllocError;
 
 /// A space and a number behind it.
@@ -54,17 +54,27 @@ pub fn push_place(bytes: &mut Vec<u8>, qubits: &[u32]) -> Result<(), AllocError>
 }
 
 /// The line of an event.
-pub fn push_line(bytes: &mut Vec<u8>, line: EventLine) -> Result<(), AllocError>
-    ensures ok { OnOk result (bytes.new.items ≡ bytes.old.items ++ ended (spelt (line_of line))) }
+fn push_event(bytes: &mut Vec<u8>, event: Event) -> Result<(), AllocError>
+    ensures ok { OnOk result (bytes.new.items ≡ bytes.old.items ++ ended (spelt (line_of event))) }
 {
-    match line {
-        EventLine::Emit { place } => push_one(bytes, b"emit", place),
-        EventLine::Back { place } => push_one(bytes, b"back", place),
-        EventLine::Swap { first, second } => {
+    match event {
+        Event::Emit { place } => push_one(bytes, b"emit", place),
+        Event::Back { place } => push_one(bytes, b"back", place),
+        Event::Swap { first, second } => {
             push_two(bytes, b"swap", first as usize, second as usize)
         }
-        EventLine::Turn { first, second } => {
+        Event::Turn { first, second } => {
             push_two(bytes, b"turn", first as usize, second as usize)
         }
     }
+}
+
+/// The lines of events, each with its line break.
+pub fn push_events(bytes: &mut Vec<u8>, events: &[Event]) -> Result<(), AllocError>
+    ensures ok { OnOk result (bytes.new.items ≡ bytes.old.items ++ ended (all_spelt (event_lines events.now))) }
+{
+    'events: for event in events {
+        push_event(bytes, *event)?;
+    }
+    Ok(())
 }

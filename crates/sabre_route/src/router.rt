@@ -143,11 +143,12 @@ fn write_step(
     state.placement().facts();
     match step(scratch, lookout, state, device)? {
         Move::Emitted(gate) => {
-            teller.emit(gate)?;
-            written.write_gate(device, state.placement(), gate)
+            let stands = state.placement();
+            teller.emit(device, stands, gate)?;
+            written.write_gate(device, stands, gate)
         }
         Move::Swapped(a, b) => {
-            teller.swap(a, b)?;
+            teller.swap(device, a, b)?;
             written.write_swap(device, a, b)
         }
     }

@@ -1,18 +1,6 @@
-use Rattle.std.proofs.Common.{List, arith, subst, sym}
-use Rattle.sabre_route.specs.Machine.{start}
-use Rattle.sabre_route.specs.declared.events.Event.{Event as Told}
-use Rattle.route_trace.specs.EventLines.{AreThere}
-use Rattle.route_trace.proofs.EventRuns.{run-there}
+use Rattle.std.proofs.Common.{arith}
 use Rattle.route_trace.proofs.TraceLaws.{trace-proves}
 use Rattle.route_trace.proofs.route_trace.Goals as goal
-
-pub text-requires-clause-there : goal.text-requires-clause-there
-text-requires-clause-there c =
-    let d = c.args.device.now in
-    let gs = c.args.body.now.gates in
-    let h = c.requires.routed.1 in
-    subst (λ (ys : List Told). AreThere d.size gs ys) (sym h.events)
-    (run-there c.requires.routed.0 d (start c.args.given.now gs) h.routed.final h.routed.events (λ a b n. c.distances_on_device.ensures.near d a b c.facts.ensures.coupling n) h.routed.run.steps)
 
 pub returns-clause-proves : goal.returns-clause-proves
 returns-clause-proves c =

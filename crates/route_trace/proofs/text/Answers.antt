@@ -9,18 +9,15 @@ use Rattle.route_trace.proofs.text.Goals as goal
 
 pub returns-clause-bytes : goal.returns-clause-bytes
 returns-clause-bytes c =
-    let es = c.args.device.now.edges in
-    let xs = c.args.events.now in
-    let r = c.in_ok-replay.ensures in
-    text-made c.args.steps.now c.args.given.now (event_lines es c.args.given.now c.args.body.now.gates xs) c.args.turn
+    text-made c.args.steps.now c.args.given.now (event_lines c.args.events.now) c.args.turn
     c.push_one.new.bytes.items c.extend_from_slice.new.self.items c.push_place.new.bytes.items c.push_events.new.bytes.items c.push_one-2.new.bytes.items
     (c.in_ok-push_one.ensures.ok ∙ ap (λ x. x ++ line (codes "TRACE") (1 ∷ [])) c.new-bytes.ensures.items)
     (c.in_ok-extend_from_slice.ensures.items ∙ ap (λ x. c.push_one.new.bytes.items ++ x) (c.deref.ensures.value ∙ c.in_ok-lines.ensures.ok))
     c.in_ok-push_place.ensures.ok
-    (c.in_ok-push_events.ensures.ok ∙ (λ i. c.push_place.new.bytes.items ++ ended (all_spelt (event_lines es (r.placement i) (r.rest i) xs))))
+    c.in_ok-push_events.ensures.ok
     c.in_ok-push_one-2.ensures.ok
 
 pub returns-clause-lines : goal.returns-clause-lines
 returns-clause-lines c =
-    let ls = all_spelt (trace_lines c.args.steps.now c.args.given.now (event_lines c.args.device.now.edges c.args.given.now c.args.body.now.gates c.args.events.now) c.args.turn) in
+    let ls = all_spelt (trace_lines c.args.steps.now c.args.given.now (event_lines c.args.events.now) c.args.turn) in
     subst (λ (x : List ℕ). ended (lines_of x) ≡ x) (sym (returns-clause-bytes c)) (ended-lines ls)
