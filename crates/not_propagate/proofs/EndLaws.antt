@@ -1,10 +1,9 @@
 -- The beginning and the end of the walk.
---     waiting_none        where no flag is set nothing waits
 --     waiting_more        one flag more
 --     none_on             what waits from wire i on isn't on a wire below
 --     more_x, more_none   one wire more, with a flag and without
 --     last_x              behind gates without an X each X that waits is the last gate on its wire
-use Rattle.std.proofs.Common.{◌≡◌, ℕ, zero, suc, ◌+◌, ◌<◌, Bool, true, false, cond, List, [], ◌∷◌, ◌++◌, length, get_or, replicate, take, refl, sym, ◌∙◌, ap, arith, add-one, append_assoc, append-nil, Some}
+use Rattle.std.proofs.Common.{◌≡◌, ℕ, zero, suc, ◌+◌, ◌<◌, Bool, true, false, cond, List, [], ◌∷◌, ◌++◌, length, get_or, take, refl, sym, ◌∙◌, ap, arith, add-one, append_assoc, append-nil, Some}
 use Rattle.std.specs.List.{AllByRecursion}
 use Rattle.std.proofs.Math.Seq.{take-suc}
 use Rattle.std.proofs.lemmas.List.{length-take-le}
@@ -15,10 +14,6 @@ use Rattle.circuit_list.specs.declared.Gate.TheVariants.{H, X, P, Cx}
 use Rattle.circuit_list.specs.Slots.{is_on_at}
 use Rattle.not_propagate.specs.LastX.{XLast}
 use Rattle.not_propagate.specs.Walks.{waiting_from, waiting, is_x, NoX}
-
-pub waiting_none : (i n : ℕ) → waiting_from i (replicate n false) ≡ []
-waiting_none i zero = refl
-waiting_none i (suc n) = waiting_none (suc i) n
 
 pub waiting_more : (i : ℕ) (fs : List Bool) (b : Bool) (w : ℕ) → w ≡ i + length fs → waiting_from i (fs ++ b ∷ []) ≡ waiting_from i fs ++ cond b (X w ∷ []) []
 waiting_more i [] b w e = go b

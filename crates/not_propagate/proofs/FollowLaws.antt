@@ -11,9 +11,11 @@ use Rattle.circuit_list.specs.declared.Gate.{Gate}
 use Rattle.circuit_list.specs.declared.Passed.{Passed}
 use Rattle.circuit_list.specs.Gates.{IsFine}
 use Rattle.path_parity.specs.NamedSums.{SamePathSum, constant_of}
+use Rattle.rewrite_pass.specs.Derivations.{HasNoMore}
 use Rattle.rewrite_pass.specs.Traces.{IsSumsStep, constants_turn}
 use Rattle.not_propagate.specs.declared.walk.Walk.{Walk}
 use Rattle.not_propagate.specs.Walks.{gates_at, flags_at, turn_at, IsFittingWalk, HasWalked, HasFinished}
+use Rattle.not_propagate.proofs.CountLaws.{written-no_more}
 use Rattle.not_propagate.proofs.RunLaws.{next_gate}
 use Rattle.not_propagate.proofs.NotSums.{written, turns, written-sums, written-constants}
 
@@ -46,6 +48,13 @@ follows_on n gs i g old new there walked h =
     sums : (x y z k o m r : ℕ) → x ≡ y → z ≡ k + y → m ≡ (o + k) % 8 → (o + z) % 8 ≡ r % 8 → (m + x) % 8 ≡ r % 8
     sums x y z k o m r a b c d = omega (arith, a, b, c, d)
 
+follows_written : (n : ℕ) (gs : List Gate) (i : ℕ) (w : Walk) (p : Passed) → length gs ≤ i → HasFinished w p → Follows n gs i w → p.body.gates ≡ written gs (replicate n false)
+follows_written n gs i w p past done h = done.gates ∙ ap (λ us. w.written.gates ++ written us w.flags.items) (sym (drop_all i gs past)) ∙ h.gates
+
+pub follows_no_more : (n : ℕ) (gs : List Gate) (i : ℕ) (w : Walk) (p : Passed) → All (IsFine n) gs → length gs ≤ i → HasFinished w p → Follows n gs i w → HasNoMore gs p.body.gates
+follows_no_more n gs i w p fine past done h =
+    subst (HasNoMore gs) (sym (follows_written n gs i w p past done h)) (written-no_more n gs (replicate n false) (recursion_from_All (IsFine n) gs fine))
+
 pub follows_end : (n : ℕ) (gs : List Gate) (i : ℕ) (w : Walk) (p : Passed) → All (IsFine n) gs → length gs ≤ i → w.written.wires ≡ n → IsFittingWalk w →
     HasFinished w p → Follows n gs i w → IsSumsStep n p.body.gates gs p.body.gates p.turn
 follows_end n gs i w p fine past wires fits done h = record {
@@ -60,7 +69,7 @@ follows_end n gs i w p fine past wires fits done h = record {
     f = recursion_from_All (IsFine n) gs fine
 
     is : p.body.gates ≡ written gs (replicate n false)
-    is = done.gates ∙ ap (λ us. w.written.gates ++ written us w.flags.items) (sym (drop_all i gs past)) ∙ h.gates
+    is = follows_written n gs i w p past done h
 
     last : (w.turn + 0) % 8 ≡ turns gs (replicate n false) % 8
     last = ap (λ us. (w.turn + turns us w.flags.items) % 8) (sym (drop_all i gs past)) ∙ h.turn

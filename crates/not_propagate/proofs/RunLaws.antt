@@ -1,29 +1,24 @@
 -- The loop over the gates.
---     fits_first, none_first, begins    at first nothing is written, and all gates are left
---     goes_on             one gate more
---     ends, ends_x        at the end no gate is left: no more of what is counted, and the shape
+--     fits_first, none_first    at first nothing is written
+--     ends_x              the shape at the end
 --     next_gate           the gates from a place on
 --     length-flags_at     as many flags behind a gate as before it
 --     fits_on, none_more  one flag for each wire, and no X among what is written
-use Rattle.std.proofs.Common.{◌≡◌, ℕ, ◌+◌, ◌-◌, ◌≤◌, Bool, true, false, cond, List, [], ◌∷◌, ◌++◌, length, replicate, drop, refl, sym, subst, ◌∙◌, ap, arith, add-one, append_assoc, append-nil, Some}
+use Rattle.std.proofs.Common.{◌≡◌, ℕ, ◌+◌, ◌-◌, Bool, true, false, cond, List, [], ◌∷◌, ◌++◌, length, replicate, drop, refl, sym, subst, ◌∙◌, ap, arith, add-one, Some}
 use Rattle.std.specs.Prelude.{slice_get}
 use Rattle.std.specs.List.{AllByRecursion}
 use Rattle.std.proofs.Math.ListN.{set}
 use Rattle.std.proofs.Math.Seq.{drop-cons}
-use Rattle.std.proofs.lemmas.List.{drop_all, length-replicate, length-set}
+use Rattle.std.proofs.lemmas.List.{length-replicate, length-set}
 use Rattle.std.proofs.lemmas.List.Elements.{All-append, All-from_recursion}
 use Rattle.std.proofs.lemmas.Option.{slice_get_within, get_or_from_slice_get}
 use Rattle.circuit_list.specs.declared.Gate.{Gate}
 use Rattle.circuit_list.specs.declared.Gate.TheVariants.{H, X, P, Cx}
 use Rattle.circuit_list.specs.declared.Passed.{Passed}
-use Rattle.circuit_list.specs.Gates.{IsFine}
-use Rattle.rewrite_pass.specs.Derivations.{HasNoMore}
-use Rattle.rewrite_pass.proofs.RewritingLaws.{Turned, Turned_refl, Turned_step}
 use Rattle.not_propagate.specs.declared.walk.Walk.{Walk}
 use Rattle.not_propagate.specs.LastX.{XLast}
-use Rattle.not_propagate.specs.Walks.{flag_of, waiting, flipped_at, gates_at, flags_at, turn_at, is_x, NoX, IsFittingWalk, HasWalked, HasFinished}
-use Rattle.not_propagate.proofs.WalkLaws.{walk_step, turn_small}
-use Rattle.not_propagate.proofs.EndLaws.{waiting_none, last_x}
+use Rattle.not_propagate.specs.Walks.{flag_of, flipped_at, gates_at, flags_at, turn_at, is_x, NoX, IsFittingWalk, HasWalked, HasFinished}
+use Rattle.not_propagate.proofs.EndLaws.{last_x}
 
 pub fits_first : (m : ℕ) (w : Walk) → w.written.wires ≡ m → w.flags.items ≡ replicate m false → w.turn ≡ 0 → IsFittingWalk w
 fits_first m w n f t = record { flags = ap length f ∙ length-replicate m false ∙ sym n; turn = omega (arith, t) }
@@ -31,38 +26,11 @@ fits_first m w n f t = record { flags = ap length f ∙ length-replicate m false
 pub none_first : (w : Walk) → w.written.gates ≡ [] → NoX w.written.gates
 none_first w g = subst NoX (sym g) (All-from_recursion (λ g. is_x g ≡ false) [] tt)
 
-pub begins : (n m : ℕ) (gs : List Gate) (w : Walk) → w.written.gates ≡ [] → w.flags.items ≡ replicate m false → w.turn ≡ 0 →
-    Turned n gs (w.written.gates ++ (waiting w.flags.items ++ drop 0 gs)) w.turn
-begins n m gs w g f t = subst (λ out. Turned n gs (out ++ (waiting w.flags.items ++ gs)) w.turn) (sym g)
-    (subst (λ fs. Turned n gs (waiting fs ++ gs) w.turn) (sym f)
-    (subst (λ xs. Turned n gs (xs ++ gs) w.turn) (sym (waiting_none 0 m))
-    (subst (Turned n gs gs) (sym t) (Turned_refl n gs))))
-
 -- the gates from place i on
 pub next_gate : (gs : List Gate) (i : ℕ) (g : Gate) → slice_get gs i ≡ Some g → drop i gs ≡ g ∷ drop (i + 1) gs
 next_gate gs i g e =
     drop-cons gs i g (slice_get_within gs i g e)
     ∙ (λ j. get_or_from_slice_get gs i g g e j ∷ drop (sym (add-one i) j) gs)
-
-pub goes_on : (n : ℕ) (gs : List Gate) (i : ℕ) (g : Gate) (old new : Walk) →
-    IsFittingWalk old → slice_get gs i ≡ Some g → IsFine old.written.wires g →
-    HasWalked (gates_at g old.flags.items) (flags_at g old.flags.items) (turn_at g old.flags.items) old new →
-    Turned n gs (old.written.gates ++ (waiting old.flags.items ++ drop i gs)) old.turn →
-    Turned n gs (new.written.gates ++ (waiting new.flags.items ++ drop (i + 1) gs)) new.turn
-goes_on n gs i g old new fits there fine walked so_far =
-    let fs : List Bool = old.flags.items in
-    let rest : List Gate = drop (i + 1) gs in
-    let before : Turned n gs (old.written.gates ++ ((waiting fs ++ g ∷ []) ++ rest)) old.turn =
-    subst (λ us. Turned n gs (old.written.gates ++ us) old.turn) (ap (λ us. waiting fs ++ us) (next_gate gs i g there) ∙ sym (append_assoc (waiting fs) (g ∷ []) rest)) so_far in
-    let fine_here : IsFine (length fs) g = subst (λ m. IsFine m g) (sym fits.flags) fine in
-    let after : Turned n gs (old.written.gates ++ ((gates_at g fs ++ waiting (flags_at g fs)) ++ rest)) new.turn =
-    Turned_step n gs old.written.gates (waiting fs ++ g ∷ []) (gates_at g fs ++ waiting (flags_at g fs)) rest old.turn (turn_at g fs) new.turn before
-    (turn_small (length fs) g fs fine_here) (walk_step g fs fine_here) walked.turn in
-    subst (λ us. Turned n gs us new.turn) (
-    ap (λ us. old.written.gates ++ us) (append_assoc (gates_at g fs) (waiting (flags_at g fs)) rest)
-    ∙ sym (append_assoc old.written.gates (gates_at g fs) (waiting (flags_at g fs) ++ rest))
-    ∙ (λ j. sym walked.gates j ++ (waiting (sym walked.flags j) ++ rest))
-    ) after
 
 pub length-flags_at : (g : Gate) (fs : List Bool) → length (flags_at g fs) ≡ length fs
 length-flags_at (H q) fs = go (flag_of fs q)
@@ -106,12 +74,5 @@ none_more g old new walked none = subst NoX (sym walked.gates)
     (All-from_recursion (λ g. is_x g ≡ false) (gates_at g old.flags.items) (no_x_at g old.flags.items)))
 
 -- ---- the end
-pub ends : (n : ℕ) (gs : List Gate) (i : ℕ) (w : Walk) (p : Passed) → length gs ≤ i →
-    Turned n gs (w.written.gates ++ (waiting w.flags.items ++ drop i gs)) w.turn → HasFinished w p → HasNoMore n gs p.body.gates
-ends n gs i w p past so_far done =
-    let all = ap (λ us. w.written.gates ++ us) (ap (λ us. waiting w.flags.items ++ us) (drop_all i gs past) ∙ append-nil (waiting w.flags.items)) ∙ sym done.gates in
-    let t = subst (λ us. Turned n gs us w.turn) all so_far in
-    record { t_gates = t.t_gates; odd_paths = t.odd_paths; cx_gates = t.cx_gates }
-
 pub ends_x : (w : Walk) (p : Passed) → NoX w.written.gates → HasFinished w p → XLast p.body.gates
 ends_x w p none done = subst XLast (sym done.gates) (last_x w.written.gates w.flags.items none)

@@ -44,7 +44,7 @@ fn propagated(alloc: Global, body: &Circuit) -> Result<Passed, AllocError>
     ensures wires { IfOk result (λ p. p.body.wires ≡ body.now.wires) }
     ensures sums { IfOk result (λ p. SamePathSum body.now.wires body.now.gates p.body.gates) }
     ensures turn { IfOk result (λ p. p.turn ≡ constants_turn body.now.wires body.now.gates p.body.gates) }
-    ensures no_more { IfOk result (λ p. HasNoMore body.now.wires body.now.gates p.body.gates) }
+    ensures no_more { IfOk result (λ p. HasNoMore body.now.gates p.body.gates) }
     ensures shape { IfOk result (λ p. XLast p.body.gates) }
 {
     body.facts();

@@ -7,8 +7,10 @@ use Rattle.std.proofs.Common.{◌≡◌, ℕ, ◌+◌, ◌%◌, ◌++◌, List, 
 use Rattle.std.proofs.lemmas.List.Elements.{recursion_from_All}
 use Rattle.circuit_list.specs.declared.Gate.{Gate}
 use Rattle.circuit_list.specs.Body.{Body}
-use Rattle.circuit_list.specs.Gates.{IsFine}
+use Rattle.circuit_list.specs.Gates.{IsFine, ops}
+use Rattle.unitary_model.specs.OddPaths.{odd_paths}
 use Rattle.path_parity.specs.NamedSums.{SamePathSum}
+use Rattle.path_parity.proofs.NamedOddLaws.{same_odd_paths}
 use Rattle.rewrite_pass.specs.Law.{IsRewriting}
 use Rattle.rewrite_pass.specs.Traces.{Step, AreSteps, constants_turn}
 use Rattle.rewrite_pass.specs.TraceOf.{IsTraced}
@@ -48,13 +50,15 @@ derivation_stepped x y s t d made st =
     (λ on. IsTraced_step n gs gs y.body.gates 0 t t s x.steps x.steps y.steps (IsTraced_refl n gs x.steps) st.step (st.steps on) (omega (arith, lt)))
 
 -- what keeps the path sum is a rewriting, if there is no more of what is counted
-sums_made : (n : ℕ) (old new : List Gate) (t : ℕ) → All (IsFine n) old → All (IsFine n) new → SamePathSum n old new → t ≡ constants_turn n old new → HasNoMore n old new → IsRewriting n old new t
+sums_made : (n : ℕ) (old new : List Gate) (t : ℕ) → All (IsFine n) old → All (IsFine n) new → SamePathSum n old new → t ≡ constants_turn n old new → HasNoMore old new → IsRewriting n old new t
 sums_made n old new t fine fine' same e more =
-    let k = sums_kept n new old new t (recursion_from_All (IsFine n) old fine) (record { fine = fine'; same = same; becomes = refl; turn = e }) in
-    record { below = k.below; same = k.same; t_gates = more.t_gates; odd_paths = more.odd_paths; cx_gates = more.cx_gates }
+    let f = recursion_from_All (IsFine n) old fine in
+    let k = sums_kept n new old new t f (record { fine = fine'; same = same; becomes = refl; turn = e }) in
+    let odd : odd_paths n (ops new) ≡ odd_paths n (ops old) = same_odd_paths n old new f (recursion_from_All (IsFine n) new fine') same in
+    record { below = k.below; same = k.same; t_gates = more.t_gates; odd_paths = omega (arith, odd); cx_gates = more.cx_gates }
 
 pub derivation_replaced : (x y : Derivation) (b : Body) (t : ℕ) → IsDerivation x → All (IsFine x.body.wires) x.body.gates → All (IsFine b.wires) b.gates → b.wires ≡ x.body.wires →
-    SamePathSum x.body.wires x.body.gates b.gates → t ≡ constants_turn x.body.wires x.body.gates b.gates → HasNoMore x.body.wires x.body.gates b.gates → IsReplacedBy t x b y → IsDerivation y
+    SamePathSum x.body.wires x.body.gates b.gates → t ≡ constants_turn x.body.wires x.body.gates b.gates → HasNoMore x.body.gates b.gates → IsReplacedBy t x b y → IsDerivation y
 derivation_replaced x y b t d fine fine' wires same e more r =
     let n = x.body.wires in
     let fine2 : All (IsFine n) b.gates = subst (λ m. All (IsFine m) b.gates) wires fine' in

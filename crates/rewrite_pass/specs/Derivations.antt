@@ -8,13 +8,12 @@
 --     IsReplacedBy t x b y  the circuit b in place of that of x, with the turn t; the step is told if the gates are others
 --     IsCompacted x y      nothing has changed but slots
 --     CancelsTo gs i j c   c is what the gates at i and j are together
---     HasNoMore n old new    no more T gates, odd path parities on n wires, and CNOTs
+--     HasNoMore old new    no more T gates and CNOTs
 use Rattle.std.specs.Prelude.{◌≡◌, ℕ, ◌+◌, ◌%◌, ◌≤◌, Bool, true, List, [], ◌∷◌, ◌++◌, Some, slice_get}
 use Rattle.circuit_list.specs.declared.Gate.{Gate}
 use Rattle.circuit_list.specs.Body.{Body}
 use Rattle.circuit_list.specs.Gates.{ops}
 use Rattle.unitary_model.specs.Operations.{t_count, cx_count}
-use Rattle.unitary_model.specs.OddPaths.{odd_paths}
 use Rattle.commute_rules.specs.declared.Cancel.{Cancel}
 use Rattle.commute_rules.specs.Cancels.{cancel_of}
 use Rattle.rewrite_pass.specs.Law.{IsRewriting}
@@ -63,7 +62,6 @@ pub record IsCompacted (x y : Derivation) : Type 0 where
 abbrev pub CancelsTo : List Gate → ℕ → ℕ → Cancel → Type 0
 CancelsTo gs i j c = (g h : Gate) → slice_get gs i ≡ Some g → slice_get gs j ≡ Some h → cancel_of g h ≡ c
 
-pub record HasNoMore (n : ℕ) (old new : List Gate) : Type 0 where
+pub record HasNoMore (old new : List Gate) : Type 0 where
   pub t_gates : t_count (ops new) ≤ t_count (ops old)
-  pub odd_paths : odd_paths n (ops new) ≤ odd_paths n (ops old)
   pub cx_gates : cx_count (ops new) ≤ cx_count (ops old)

@@ -155,7 +155,7 @@ impl Rewriting {
         requires wires { body.wires ≡ self.old.body.wires }
         requires sums { SamePathSum self.old.body.wires self.old.body.gates body.gates }
         requires turn { turn ≡ constants_turn self.old.body.wires self.old.body.gates body.gates }
-        requires no_more { HasNoMore self.old.body.wires self.old.body.gates body.gates }
+        requires no_more { HasNoMore self.old.body.gates body.gates }
         ensures ok { OnOk result (IsReplacedBy turn self.old body self.new) }
         ensures err { OnErr result (self.new ≡ self.old) }
     {

@@ -94,20 +94,20 @@ all_fine n gs f = All-from_recursion (IsFine n) gs (go gs f)
     go [] f = tt
     go (g ∷ gs) f = (f.0, go gs f.1)
 
-pub result-no_more : (n : ℕ) (gs : List Gate) → All (IsFine n) gs → HasNoMore n gs (merged n gs)
+pub result-no_more : (n : ℕ) (gs : List Gate) → All (IsFine n) gs → HasNoMore gs (merged n gs)
 result-no_more n gs all =
     let same : odd_paths n (ops (merged n gs)) ≡ odd_paths n (ops gs) = result-odd_paths n gs (fine_from_all n gs all) in
     let shape : t_count (ops (merged n gs)) ≡ odd_paths n (ops (merged n gs)) = result-shape n gs in
     let most : odd_paths n (ops gs) ≤ t_count (ops gs) = odd_paths-t_count n (ops gs) in
     let cnots : cx_count (ops (merged n gs)) ≡ cx_count (ops gs) = cx_count-frame (merged n gs) ∙ ap (λ us. cx_count (ops us)) (frame-merged gs (own_labels n) n (totals_of n gs)) ∙ sym (cx_count-frame gs) in
-    record { t_gates = omega (arith, same, shape, most); odd_paths = omega (arith, same); cx_gates = omega (arith, cnots) }
+    record { t_gates = omega (arith, same, shape, most); cx_gates = omega (arith, cnots) }
 
 pub result-smaller : (n : ℕ) (gs : List Gate) → All (IsFine n) gs → IsSmallerOrSame gs (merged n gs)
 result-smaller n gs all = merged-same gs (own_labels n) n n (totals_of n gs) (fine_from_all n gs all) (totals_of-marks n gs)
 
 -- ---- what the code gives
-pub merged-no_more : (n : ℕ) (gs : List Gate) (p : Passed) → All (IsFine n) gs → IsMerged n gs p → HasNoMore n gs p.body.gates
-merged-no_more n gs p all m = subst (HasNoMore n gs) (sym m.gates) (result-no_more n gs all)
+pub merged-no_more : (n : ℕ) (gs : List Gate) (p : Passed) → All (IsFine n) gs → IsMerged n gs p → HasNoMore gs p.body.gates
+merged-no_more n gs p all m = subst (HasNoMore gs) (sym m.gates) (result-no_more n gs all)
 
 pub merged-shape : (n : ℕ) (gs : List Gate) (p : Passed) → IsMerged n gs p → t_count (ops p.body.gates) ≡ odd_paths n (ops p.body.gates)
 merged-shape n gs p m = subst (λ us. t_count (ops us) ≡ odd_paths n (ops us)) (sym m.gates) (result-shape n gs)

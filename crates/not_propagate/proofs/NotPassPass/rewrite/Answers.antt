@@ -14,7 +14,7 @@ pub replace-requires-clause-turn : goal.replace-requires-clause-turn
 replace-requires-clause-turn c = subst (λ (a : Body). c.in_ok-passed.passed.turn ≡ constants_turn a.wires a.gates c.in_ok-passed.passed.body.gates) c.body.ensures.value c.in_ok-passed.ensures.turn
 
 pub replace-requires-clause-no_more : goal.replace-requires-clause-no_more
-replace-requires-clause-no_more c = subst (λ (a : Body). HasNoMore a.wires a.gates c.in_ok-passed.passed.body.gates) c.body.ensures.value c.in_ok-passed.ensures.no_more
+replace-requires-clause-no_more c = subst (λ (a : Body). HasNoMore a.gates c.in_ok-passed.passed.body.gates) c.body.ensures.value c.in_ok-passed.ensures.no_more
 
 pub returns-clause-shape : goal.returns-clause-shape
 returns-clause-shape c = subst (λ (a : Body). XLast a.gates) (sym c.in_ok-replace.ensures.ok.body) c.in_ok-passed.ensures.shape

@@ -28,7 +28,7 @@ pub replace-requires-clause-no_more : goal.replace-requires-clause-no_more
 replace-requires-clause-no_more c =
     let b = c.body.result.now in
     let p = c.in_ok-passed.passed in
-    subst (λ (a : Body). HasNoMore a.wires a.gates p.body.gates) c.body.ensures.value (merged-no_more b.wires b.gates p c.in_ok-passed.ensures.fine c.in_ok-passed.ensures.merged)
+    subst (λ (a : Body). HasNoMore a.gates p.body.gates) c.body.ensures.value (merged-no_more b.wires b.gates p c.in_ok-passed.ensures.fine c.in_ok-passed.ensures.merged)
 
 pub returns-clause-shape : goal.returns-clause-shape
 returns-clause-shape c =

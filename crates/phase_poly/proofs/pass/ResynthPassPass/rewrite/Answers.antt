@@ -25,7 +25,7 @@ pub replace-requires-clause-no_more : goal.replace-requires-clause-no_more
 replace-requires-clause-no_more c =
     let p = c.in-Some.passed in
     let law = (rw c.in-Some.is at c.in_ok-passed.ensures.law) in
-    subst (λ (a : Body). HasNoMore a.wires a.gates p.body.gates) c.body.ensures.value (record { t_gates = law.t_gates; odd_paths = law.odd_paths; cx_gates = law.cx_gates })
+    subst (λ (a : Body). HasNoMore a.gates p.body.gates) c.body.ensures.value (record { t_gates = law.t_gates; cx_gates = law.cx_gates })
 
 pub returns-clause-kept : goal.returns-clause-kept
 returns-clause-kept c =

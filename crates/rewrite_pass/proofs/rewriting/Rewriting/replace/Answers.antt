@@ -27,7 +27,7 @@ invariant_of-self-2 c =
     (replaced c).continued.wires
     (subst (λ (a : Derivation). SamePathSum a.body.wires a.body.gates c.args.body.gates) back c.requires.sums)
     (subst (λ (a : Derivation). c.args.turn ≡ constants_turn a.body.wires a.body.gates c.args.body.gates) back c.requires.turn)
-    (subst (λ (a : Derivation). HasNoMore a.body.wires a.body.gates c.args.body.gates) back c.requires.no_more)
+    (subst (λ (a : Derivation). HasNoMore a.body.gates c.args.body.gates) back c.requires.no_more)
     (replaced c)
 
 pub returns-clause-ok : goal.returns-clause-ok
