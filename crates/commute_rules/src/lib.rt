@@ -12,7 +12,7 @@
 pub mod laws;
 
 ghost use Rattle.std.specs.Prelude.{◌≡◌, ◌+◌, ◌%◌, ◌==◌, if◌then◌else◌};
-ghost use Rattle.commute_rules.specs.Cancels.{cancel_of};
+ghost use Rattle.commute_rules.specs.Cancels.{cancel_of, with_phase};
 ghost use Rattle.commute_rules.specs.Commutes.{commutes};
 
 use circuit_list::Gate;
@@ -78,6 +78,16 @@ pub fn cancels(a: Gate, b: Gate) -> Cancel
             Gate::Cx { c: d, t: u } if c == d && t == u => Cancel::Both { turn: 0 },
             _ => Cancel::No,
         },
+    }
+}
+
+/// A phase with another `k`; any other gate as it is.
+pub fn with_phase(gate: Gate, k: u8) -> Gate
+    ensures { result ≡ with_phase k gate }
+{
+    match gate {
+        Gate::P { k: _, q } => Gate::P { k, q },
+        Gate::H { q: _ } | Gate::X { q: _ } | Gate::Cx { c: _, t: _ } => gate,
     }
 }
 

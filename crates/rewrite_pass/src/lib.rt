@@ -10,7 +10,8 @@
 //! steps itself. Each pass is one body on it ([`Pass::rewrite`]), silent or told, and proves its shape and what it has kept.
 //! A pass that is [`Traced`], as each is, tells its steps ([`Trace`]): they lead from the circuit to the result, which anyone can
 //! check again.
-//! [`next_gate`], [`next_is`] and [`prev_is`] go along the wires of a circuit, for rules and for a check of their steps.
+//! [`next_gate`], [`next_is`] and [`prev_is`] go along the wires of a circuit, and [`make_change`] changes a few gates, for rules and
+//! for a check of their steps; [`push_one`] and [`push_two`] write lines of traces.
 //!
 //! A circuit is always fine, so no pass refuses one: the only error is want of memory.
 #![tactic(auto)]
@@ -29,6 +30,7 @@ mod walks;
 mod wires;
 
 pub use combine::{Round, Settle, Then, WhileSmaller};
+pub use lines::{push_number, push_one, push_two};
 pub use make::make_change;
 pub use pass::{KeepsPairs, MayStay, Pass, Shrinks, Traced};
 pub use rewriting::Rewriting;

@@ -2,7 +2,6 @@
 
 ghost use Rattle.std.specs.Prelude.{◌≡◌, ◌<◌, ℕ, [], true, IfOk, OnErr, OnOk};
 ghost use Rattle.circuit_list.specs.Slots.{IsLive, place_of};
-ghost use Rattle.commute_rules.specs.Cancels.{with_phase};
 ghost use Rattle.commute_rules.specs.declared.Cancel.TheVariants as cancelling;
 ghost use Rattle.commute_rules.specs.Reducible.{IsReducible};
 ghost use Rattle.path_parity.specs.NamedSums.{SamePathSum};
@@ -15,7 +14,8 @@ use crate::log::Log;
 use crate::make::make_change;
 use crate::rule::Change;
 use crate::trace::Trace;
-use circuit_list::{Circuit, Gate, Passed, Slot};
+use circuit_list::{Circuit, Passed, Slot};
+use commute_rules::with_phase;
 use std::alloc::{AllocError, Global};
 use std::marker::Model;
 use std::snapshot::Snapshot;
@@ -204,15 +204,5 @@ impl Rewriting {
             turn: self.turn,
         };
         (passed, self.log.steps)
-    }
-}
-
-/// A phase with another `k`.
-fn with_phase(gate: Gate, k: u8) -> Gate
-    ensures { result ≡ with_phase k gate }
-{
-    match gate {
-        Gate::P { k: _, q } => Gate::P { k, q },
-        Gate::H { q: _ } | Gate::X { q: _ } | Gate::Cx { c: _, t: _ } => gate,
     }
 }

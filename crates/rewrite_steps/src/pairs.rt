@@ -4,14 +4,14 @@ ghost use Rattle.std.specs.Prelude.{◌≡◌, ℕ, ◌<◌, ◌≤◌, List, Ma
 ghost use Rattle.circuit_list.specs.declared.Gate.{Gate};
 ghost use Rattle.circuit_list.specs.Gates.{IsFine};
 ghost use Rattle.circuit_list.specs.Slots.{IsLive, is_on_at, place_of};
-ghost use Rattle.commute_rules.specs.Cancels.{Cancels, with_phase};
+ghost use Rattle.commute_rules.specs.Cancels.{Cancels};
 ghost use Rattle.rewrite_pass.specs.Traces.{IsBothStep, IsJoinStep};
 ghost use Rattle.rewrite_steps.specs.Known.{AreEnds, AreSpansIn, IsBetween, IsProbe};
 ghost use Rattle.rewrite_steps.specs.Pairs.{IsFree, Reduces};
 
 use crate::known::{Known, wider};
 use circuit_list::{Circuit, Gate, Slot};
-use commute_rules::{Cancel, cancels, commute};
+use commute_rules::{Cancel, cancels, commute, with_phase};
 
 /// What is found by fewer steps along a wire isn't remembered.
 const FAR: usize = 16;
@@ -156,16 +156,6 @@ fn together(body: &Circuit, known: &mut Known, first: usize, second: usize) -> C
         cancels(gate, other)
     } else {
         Cancel::No
-    }
-}
-
-/// A phase with another `k`.
-fn with_phase(gate: Gate, k: u8) -> Gate
-    ensures { result ≡ with_phase k gate }
-{
-    match gate {
-        Gate::P { k: _, q } => Gate::P { k, q },
-        Gate::H { q: _ } | Gate::X { q: _ } | Gate::Cx { c: _, t: _ } => gate,
     }
 }
 

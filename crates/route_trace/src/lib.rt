@@ -22,11 +22,11 @@ ghost use Rattle.trace_text.specs.Texts.{ended, lines_of};
 ghost use Rattle.unitary_model.specs.Placement.{IsPlacement};
 ghost use Rattle.route_trace.specs.EventLines.{event_lines, trace_lines};
 
-use crate::lines::{push_events, push_one, push_place};
+use crate::lines::{push_events, push_place};
 use circuit_list::Circuit;
 use coupling_map::Device;
 use coupling_map::laws::distances_on_device;
-use rewrite_pass::Trace;
+use rewrite_pass::{Trace, push_one};
 use sabre_route::{Event, Routed};
 use std::alloc::{AllocError, Global};
 

@@ -1,45 +1,14 @@
 //! The lines of a trace, but for those of its steps.
 
-ghost use Rattle.std.specs.Prelude.{◌≡◌, [], ◌∷◌, ◌++◌, codes, decimal, OnOk};
+ghost use Rattle.std.specs.Prelude.{◌≡◌, [], ◌∷◌, ◌++◌, codes, OnOk};
 ghost use Rattle.rewrite_pass.specs.TraceLines.{words};
 ghost use Rattle.trace_text.specs.Texts.{ended};
 ghost use Rattle.trace_model.specs.Lines.{all_spelt, spelt};
 ghost use Rattle.route_trace.specs.EventLines.{event_lines, line_of};
 
-use itoa::Buffer;
+use rewrite_pass::{push_number, push_one, push_two};
 use sabre_route::Event;
 use std::alloc::AllocError;
-
-/// A space and a number behind it.
-fn push_number(bytes: &mut Vec<u8>, number: usize) -> Result<(), AllocError>
-    ensures { OnOk result (bytes.new.items ≡ bytes.old.items ++ 32 ∷ decimal number) }
-{
-    let mut buffer = Buffer::new();
-    bytes.push(b' ')?;
-    bytes.extend_from_slice(buffer.format(number).as_bytes())?;
-    Ok(())
-}
-
-/// A line of a word and a number.
-pub fn push_one(bytes: &mut Vec<u8>, word: &[u8], number: usize) -> Result<(), AllocError>
-    ensures ok { OnOk result (bytes.new.items ≡ bytes.old.items ++ (words word.now (number ∷ []) ++ 10 ∷ [])) }
-{
-    bytes.extend_from_slice(word)?;
-    push_number(bytes, number)?;
-    bytes.push(b'\n')?;
-    Ok(())
-}
-
-/// A line of a word and two numbers.
-fn push_two(bytes: &mut Vec<u8>, word: &[u8], first: usize, second: usize) -> Result<(), AllocError>
-    ensures { OnOk result (bytes.new.items ≡ bytes.old.items ++ (words word.now (first ∷ second ∷ []) ++ 10 ∷ [])) }
-{
-    bytes.extend_from_slice(word)?;
-    push_number(bytes, first)?;
-    push_number(bytes, second)?;
-    bytes.push(b'\n')?;
-    Ok(())
-}
 
 /// The line of a placement.
 pub fn push_place(bytes: &mut Vec<u8>, qubits: &[u32]) -> Result<(), AllocError>
