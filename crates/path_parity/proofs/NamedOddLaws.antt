@@ -124,17 +124,11 @@ pub record Numbering (n : ℕ) (hs : List (ℕ × ℕ)) : Type 0 where
 
 pub numbering : (n : ℕ) (hs : List (ℕ × ℕ)) → OnWires n hs → Numbering n hs
 numbering n hs w = record {
-  map = renamed N r;
-  linear = renamed-linear N r;
-  numbers = numbers-renamed N n r hs unseen n w (omega arith) (λ i l. refl);
-  start = own-renamed N n r (omega arith) (λ p lt. number_at-own n hs unseen n p lt);
+  map = renamed (suc (n + all_names n hs unseen)) (number_at n hs unseen n);
+  linear = renamed-linear (suc (n + all_names n hs unseen)) (number_at n hs unseen n);
+  numbers = numbers-renamed (suc (n + all_names n hs unseen)) n (number_at n hs unseen n) hs unseen n w (omega arith) (λ i l. refl);
+  start = own-renamed (suc (n + all_names n hs unseen)) n (number_at n hs unseen n) (omega arith) (λ p lt. number_at-own n hs unseen n p lt);
 }
-  where
-    N : ℕ
-    N = suc (n + all_names n hs unseen)
-
-    r : ℕ → ℕ
-    r = number_at n hs unseen n
 
 pub odd_paths-named : (n : ℕ) (gs : List Gate) → AllByRecursion (IsFine n) gs → odd_paths n (ops gs) ≡ odd_label_count (named_odd n gs (own_labels n) unseen)
 odd_paths-named n gs f =
