@@ -1,4 +1,4 @@
-//! Tests of `gf2_linear`, `cnot_synth`, `matroid_partition` and `phase_poly`: worked rows and lists of gates, and drawn rows
+//! Tests of `gf2_linear`, `cnot_synth`, `gray_synth`, `matroid_partition` and `phase_poly`: worked rows and lists of gates, and drawn rows
 //! against plain programs.
 //!
 //! Each test function is proved too, so they are in a crate of their own: these crates are proved once. A proof is long for each
@@ -7,6 +7,8 @@
 
 #[cfg(test)]
 mod gf2_tests;
+#[cfg(test)]
+mod gray_tests;
 #[cfg(test)]
 mod partition_tests;
 #[cfg(test)]

@@ -64,7 +64,7 @@ pub fn pairs(alloc: Global, word: &str) -> Result<Vec<(u32, u32)>, AllocError> {
 }
 
 /// The row of three wires whose bits a number spells.
-fn row_of(mask: u32) -> Row
+pub fn row_of(mask: u32) -> Row
     ensures small { result < 2 ^ 3 }
 {
     let mut row = Row::empty();
