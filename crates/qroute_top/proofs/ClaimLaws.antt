@@ -49,7 +49,7 @@ use Rattle.qroute_top.specs.declared.stops.DeviceStop.TheVariants as device_stop
 use Rattle.qroute_top.specs.declared.stops.Stop.{Stop}
 use Rattle.qroute_top.specs.declared.stops.Stop.TheVariants as stop
 use Rattle.qroute_top.proofs.DeviceLaws.{IsDevice-once, IsDevice-refused}
-use Rattle.qroute_top.proofs.StatusLaws.{claim_told}
+use Rattle.qroute_top.proofs.StatusLaws.{claim-status}
 
 -- ---- a text that isn't had as a program
 pub IsTextStop-text : (s : Side) (content : Option (Option (List ℕ))) (before after : ℕ) (f : TextFault) (x : Stop)
@@ -689,13 +689,13 @@ same_ending law traces content v x y told (d, had, (f, found, c)) (e, has, (g, t
 pub ended-claim : (content : Content) (v : Verifying) (before after : ℕ) (x : ClaimStop) → IsClaimCause content v before after x
     → (Rose before after → ⊥) → (y : Ending) × IsEnding content v y × (claim_status x ≡ ending_status y)
 ended-claim content v before after claim.Failed c calm = absurd (calm c)
-ended-claim content v before after claim.Absent c calm = (Stops claim.Absent, c.0, sym (claim_told claim.Absent))
-ended-claim content v before after (claim.Refused s r) c calm = (Stops (claim.Refused s r), c.0, sym (claim_told (claim.Refused s r)))
-ended-claim content v before after (claim.TooFewQubits size qubits) c calm = (Stops (claim.TooFewQubits size qubits), c.0, sym (claim_told (claim.TooFewQubits size qubits)))
-ended-claim content v before after (claim.Trace line) c calm = (Stops (claim.Trace line), c.0, sym (claim_told (claim.Trace line)))
-ended-claim content v before after claim.Placed c calm = (Stops claim.Placed, c.0, sym (claim_told claim.Placed))
-ended-claim content v before after claim.Reads c calm = (Stops claim.Reads, c.0, sym (claim_told claim.Reads))
-ended-claim content v before after (claim.Edge n) c calm = (Stops (claim.Edge n), c.0, sym (claim_told (claim.Edge n)))
+ended-claim content v before after claim.Absent c calm = (Stops claim.Absent, c.0, sym (claim-status claim.Absent))
+ended-claim content v before after (claim.Refused s r) c calm = (Stops (claim.Refused s r), c.0, sym (claim-status (claim.Refused s r)))
+ended-claim content v before after (claim.TooFewQubits size qubits) c calm = (Stops (claim.TooFewQubits size qubits), c.0, sym (claim-status (claim.TooFewQubits size qubits)))
+ended-claim content v before after (claim.Trace line) c calm = (Stops (claim.Trace line), c.0, sym (claim-status (claim.Trace line)))
+ended-claim content v before after claim.Placed c calm = (Stops claim.Placed, c.0, sym (claim-status claim.Placed))
+ended-claim content v before after claim.Reads c calm = (Stops claim.Reads, c.0, sym (claim-status claim.Reads))
+ended-claim content v before after (claim.Edge n) c calm = (Stops (claim.Edge n), c.0, sym (claim-status (claim.Edge n)))
 
 -- a claim is judged only where the device, if one is asked for, is had
 pub claim-had : (content : Content) (v : Verifying) (before after : ℕ) (x : ClaimStop) → IsClaimCause content v before after x

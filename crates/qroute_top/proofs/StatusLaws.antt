@@ -1,5 +1,6 @@
 -- The statuses of a run's end.
 --   status-stop           the status of the fault that a stop is told as
+--   row-stop, claim-status    what is told of a stop is the row of its fault; so is the status of a stop of `verify`
 --   Ends s n              a stop ends with want of memory or with its status
 --   not_late              it is none of those that a plan ends with
 --   not_memory            a fault that is told isn't want of memory
@@ -7,8 +8,8 @@
 --   on_ok, on_err         what holds anyway holds of an answer
 --   on_calm               what holds of an answer that is Ok, where the count of faults did not rise
 --   HasText-stays, HasText-prefix   a program that came, and a sink that then keeps what it holds
-use Rattle.std.proofs.Common.{◌≡◌, ◌⊎◌, inl, inr, ℕ, List, Option, Some, None, Result, Ok, Err, true, false, refl, sym, ap, arith, append-nil, []}
-use Rattle.std.specs.Prelude.{OnErr, OnOk}
+use Rattle.std.proofs.Common.{◌≡◌, ◌⊎◌, inl, inr, ℕ, List, Option, Some, None, Result, Ok, Err, true, false, refl, sym, ap, ◌∙◌, arith, append-nil, []}
+use Rattle.std.specs.Prelude.{OnErr, OnOk, option_map}
 use Rattle.outside_io.specs.Causes.{HasCause, Rose}
 use Rattle.outside_io.specs.Bytes.{Gains, GainsPrefix, Stays}
 use Rattle.outside_io.proofs.Known.{Gains-stays, GainsPrefix-stays}
@@ -21,15 +22,16 @@ use Rattle.gate_inline.specs.declared.refusal.InlineRefusal.{InlineRefusal}
 use Rattle.gate_inline.specs.declared.refusal.InlineRefusal.TheVariants as inline
 use Rattle.gate_inline.specs.Inlined.{inline_code}
 use Rattle.qasm_check.specs.Refusals.{code as check_code}
-use Rattle.route_report.specs.Faults.{status_of}
+use Rattle.route_report.specs.Faults.{FaultRow, fault_row, status_of}
 use Rattle.route_report.specs.Refusals.{stops_with}
 use Rattle.route_report.specs.declared.faults.Fault.{Fault}
 use Rattle.route_report.specs.declared.faults.Side.{Side}
 use Rattle.route_report.specs.declared.faults.Fault.TheVariants as fault
 use Rattle.qasm_writer.specs.Outputs.{HasText}
 use Rattle.qasm_writer.specs.declared.output.Output.{Output}
-use Rattle.qroute_top.specs.Causes.{claim_status, fault_of, is_early_fault, stop_status}
-use Rattle.qroute_top.specs.Faults.{claim_fault, device_fault, question_fault, refusal_fault, text_fault}
+use Rattle.qroute_top.specs.Causes.{claim_status, is_early_fault, stop_status}
+use Rattle.qroute_top.specs.Faults.{claim_fault, device_fault, fault_of, question_fault, refusal_fault, text_fault}
+use Rattle.qroute_top.specs.Told.{claim_row, device_row, program_row, question_row, row_of}
 use Rattle.qroute_top.specs.declared.stops.ClaimStop.{ClaimStop}
 use Rattle.qroute_top.specs.declared.stops.ClaimStop.TheVariants as claim
 use Rattle.qroute_top.specs.declared.stops.DeviceRefusal.{DeviceRefusal}
@@ -74,7 +76,7 @@ text_status s (refusal.Depth place) = refl
 text_status s (refusal.Check r) = check_status r.refusal
 text_status s (refusal.Inline r) = inline_status r.refusal
 
-pub claim_told : (x : ClaimStop) → status_of (claim_fault x) ≡ claim_status x
+claim_told : (x : ClaimStop) → status_of (claim_fault x) ≡ claim_status x
 claim_told claim.Failed = refl
 claim_told claim.Absent = refl
 claim_told (claim.Refused s r) = text_status s r
@@ -128,6 +130,71 @@ status-stop (stop.Device r) f n e is = by_fault (device_fault r) f n 4 e is (dev
 status-stop (stop.Question r) f n e is = by_fault (question_fault r) f n 3 e is (question_status r)
 status-stop (stop.Claim x) f n e is = by_fault (claim_fault x) f n (claim_status x) e is (claim_told x)
 
+-- the row of a stop is that of its fault
+program_rows : (r : ProgramRefusal) → program_row None r ≡ fault_row (refusal_fault r)
+program_rows refusal.TooLong = refl
+program_rows (refusal.BadByte place) = refl
+program_rows (refusal.Number place) = refl
+program_rows (refusal.Syntax place) = refl
+program_rows (refusal.Version place) = refl
+program_rows (refusal.Depth place) = refl
+program_rows (refusal.Check r) = refl
+program_rows (refusal.Inline r) = refl
+
+text_rows : (s : Side) (r : ProgramRefusal) → program_row (Some s) r ≡ fault_row (text_fault s r)
+text_rows s refusal.TooLong = refl
+text_rows s (refusal.BadByte place) = refl
+text_rows s (refusal.Number place) = refl
+text_rows s (refusal.Syntax place) = refl
+text_rows s (refusal.Version place) = refl
+text_rows s (refusal.Depth place) = refl
+text_rows s (refusal.Check r) = refl
+text_rows s (refusal.Inline r) = refl
+
+device_rows : (r : DeviceRefusal) → device_row r ≡ fault_row (device_fault r)
+device_rows device.TooLong = refl
+device_rows (device.Fault device_fault_is.Text) = refl
+device_rows (device.Fault device_fault_is.Shape) = refl
+device_rows (device.Fault device_fault_is.Range) = refl
+device_rows (device.Fault (device_fault_is.SelfEdge qubit)) = refl
+device_rows (device.Fault (device_fault_is.EdgeCost from to)) = refl
+device_rows (device.Fault (device_fault_is.NotConnected from to)) = refl
+device_rows (device.TooFewQubits size qubits) = refl
+device_rows (device.Initial size qubits) = refl
+
+question_rows : (r : QuestionRefusal) → question_row r ≡ fault_row (question_fault r)
+question_rows (question.WideProgram qubits) = refl
+question_rows (question.ManyBranches branches) = refl
+question_rows (question.BitsLength qubits) = refl
+question_rows (question.TooManySpares qubits spares) = refl
+
+claim_rows : (x : ClaimStop) → claim_row x ≡ fault_row (claim_fault x)
+claim_rows claim.Failed = refl
+claim_rows claim.Absent = refl
+claim_rows (claim.Refused s r) = text_rows s r
+claim_rows (claim.TooFewQubits size qubits) = refl
+claim_rows (claim.Trace line) = refl
+claim_rows claim.Placed = refl
+claim_rows claim.Reads = refl
+claim_rows (claim.Edge operation) = refl
+
+stop_rows : (s : Stop) → row_of s ≡ option_map fault_row (fault_of s)
+stop_rows stop.NoMemory = refl
+stop_rows stop.Words = refl
+stop_rows stop.Input = refl
+stop_rows stop.Shelf = refl
+stop_rows stop.Absent = refl
+stop_rows (stop.Program r) = ap (λ w. Some w) (program_rows r)
+stop_rows (stop.Device r) = ap (λ w. Some w) (device_rows r)
+stop_rows (stop.Question r) = ap (λ w. Some w) (question_rows r)
+stop_rows (stop.Claim x) = ap (λ w. Some w) (claim_rows x)
+
+pub row-stop : (s : Stop) (f : Fault) → fault_of s ≡ Some f → row_of s ≡ Some (fault_row f)
+row-stop s f e = stop_rows s ∙ ap (option_map fault_row) e
+
+pub claim-status : (x : ClaimStop) → (claim_row x).1 ≡ claim_status x
+claim-status x = ap (λ (w : FaultRow). w.1) (claim_rows x) ∙ claim_told x
+
 abbrev pub Ends : Stop → ℕ → Type 0
 Ends s n = (n ≡ 7) ⊎ (n ≡ stop_status s)
 
@@ -162,7 +229,7 @@ pub on_calm : {T E : Type 0} (before now : ℕ) (r : Result T E) (P : Type 0) �
 on_calm before now (Ok x) P cause h calm = h
 on_calm before now (Err e) P cause h calm = absurd (calm cause.failed)
 
-pub ruleset told = (status-stop, on_calm)
+pub ruleset told = (status-stop, row-stop, on_calm)
 
 -- a program that came
 pub HasText-stays : (o : Output) (a b c : Option (List ℕ)) → HasText o (λ text. Gains a b text) → Stays b c → HasText o (λ text. Gains a c text)

@@ -9,18 +9,15 @@
 --   IsClaimCause content v before after x   why a claim isn't proved, or what is asked of its target besides isn't so
 --   IsCause h s           the stop s has its cause; want of memory is free
 --   IsSourceCause, IsDeviceCause   why the program isn't read, and why the device isn't had
---   fault_of s            the fault that a stop is told as
---   EndsWithFault h n t   the program ends with status n for a stop that has its cause, and t holds of its fault
+--   EndsWithFault h n t   the program ends with status n for a stop that has its cause, and t holds of what is told of it
 --   stop_status s         the status that a stop ends with;  claim_status: that of a stop of `verify`
 --   output_fault_line     the line that is told of an output that fails
 --   is_early_fault n      the statuses of such stops
-use Rattle.std.specs.Prelude.{◌≡◌, ℕ, Bool, true, ◌==◌, ◌||◌, List, Option, Some, None, ⊤}
+use Rattle.std.specs.Prelude.{◌≡◌, ℕ, Bool, true, ◌==◌, ◌||◌, List, Option, Some, None, ⊤, codes}
 use Rattle.outside_io.specs.Bytes.{Tells}
 use Rattle.outside_io.specs.Causes.{Rose}
 use Rattle.outside_io.specs.Shelf.{HasNoText, TellsText}
-use Rattle.route_report.specs.declared.faults.Fault.{Fault}
-use Rattle.route_report.specs.declared.faults.Fault.TheVariants as fault
-use Rattle.route_report.specs.Faults.{fault_line, status_of}
+use Rattle.route_report.specs.Faults.{FaultRow, no_more, row_line}
 use Rattle.gate_inline.specs.Programs.{IsAccepted, Program}
 use Rattle.program_reader.specs.Refusals.{IsRefusal}
 use Rattle.program_reader.specs.declared.refusal.ProgramRefusal.{ProgramRefusal}
@@ -41,8 +38,8 @@ use Rattle.qroute_top.specs.declared.stops.Stop.TheVariants as stop
 use Rattle.qroute_top.specs.Claims.{Compares, IsEnding, Stops}
 use Rattle.qroute_top.specs.Delivered.{Content}
 use Rattle.qroute_top.specs.Devices.{IsDeviceRefusal, HasSource}
-use Rattle.qroute_top.specs.Faults.{claim_fault, device_fault, question_fault, refusal_fault}
 use Rattle.qroute_top.specs.Questions.{IsQuestionRefusal}
+use Rattle.qroute_top.specs.Told.{row_of}
 
 pub record Handed : Type 0 where
   pub words : List (List ℕ)
@@ -103,17 +100,6 @@ IsDeviceCause content n initial before after device_stop.Failed = Rose before af
 IsDeviceCause content n initial before after device_stop.Absent = HasNoText content
 IsDeviceCause content n initial before after (device_stop.Refused r) = IsRefusedDevice content n initial r
 
-abbrev pub fault_of : Stop → Option Fault
-fault_of stop.NoMemory = None
-fault_of stop.Words = Some fault.Words
-fault_of stop.Input = Some fault.Input
-fault_of (stop.Program r) = Some (refusal_fault r)
-fault_of stop.Shelf = Some fault.Shelf
-fault_of stop.Absent = Some fault.Absent
-fault_of (stop.Device r) = Some (device_fault r)
-fault_of (stop.Question r) = Some (question_fault r)
-fault_of (stop.Claim x) = Some (claim_fault x)
-
 abbrev pub claim_status : ClaimStop → ℕ
 claim_status claim.Failed = 9
 claim_status claim.Absent = 9
@@ -138,10 +124,10 @@ stop_status (stop.Claim x) = claim_status x
 
 -- the line that is told of an output that fails
 abbrev pub output_fault_line : List ℕ
-output_fault_line = fault_line fault.Output
+output_fault_line = row_line (codes "Output", 6, no_more)
 
 abbrev pub is_early_fault : ℕ → Bool
 is_early_fault n = (n == 1) || ((n == 2) || ((n == 3) || ((n == 4) || ((n == 5) || (n == 9)))))
 
-abbrev pub EndsWithFault : Handed → ℕ → (Fault → Type 0) → Type 0
-EndsWithFault h status told = (s : Stop) × IsCause h s × ((f : Fault) × (fault_of s ≡ Some f) × (status ≡ status_of f) × told f)
+abbrev pub EndsWithFault : Handed → ℕ → (FaultRow → Type 0) → Type 0
+EndsWithFault h status told = (s : Stop) × IsCause h s × ((r : FaultRow) × (row_of s ≡ Some r) × (status ≡ r.1) × told r)

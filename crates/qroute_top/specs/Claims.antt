@@ -37,7 +37,6 @@ use Rattle.command_line.specs.declared.commands.Command.{Command}
 use Rattle.command_line.specs.declared.commands.Verifying.{Verifying}
 use Rattle.coupling_map.specs.Coupling.{Coupling}
 use Rattle.coupling_map.specs.Edges.{FollowsEdges}
-use Rattle.route_report.specs.Faults.{status_of}
 use Rattle.route_report.specs.Verdicts.{verdict_text}
 use Rattle.route_report.specs.declared.faults.Side.{Side}
 use Rattle.route_report.specs.declared.faults.Side.TheVariants as side
@@ -49,7 +48,7 @@ use Rattle.verdict_checks.specs.Checks.{AreInPlace, IsFirstOff, ReadsAlike}
 use Rattle.qroute_top.specs.declared.stops.ClaimStop.{ClaimStop}
 use Rattle.qroute_top.specs.declared.stops.ClaimStop.TheVariants as claim
 use Rattle.qroute_top.specs.Devices.{IsDevice}
-use Rattle.qroute_top.specs.Faults.{claim_fault}
+use Rattle.qroute_top.specs.Told.{claim_row}
 
 abbrev pub limit_of : Side → ℕ
 limit_of side.Source = most_text_bytes
@@ -176,5 +175,5 @@ pub record Compares (words : List (List ℕ)) (v : Verifying) : Type 0 where
   pub claim : asked_claim command ≡ Some v
 
 abbrev pub ending_status : Ending → ℕ
-ending_status (Stops x) = status_of (claim_fault x)
+ending_status (Stops x) = (claim_row x).1
 ending_status (Proved first last phase) = 0

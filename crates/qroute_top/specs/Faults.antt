@@ -1,7 +1,9 @@
--- The faults that refusals and stops are told as.
---   refusal_fault, device_fault, question_fault   that of a refusal of the program, of the device, or of a question
---   text_fault side r   that of a refusal of a text of `verify`
---   claim_fault x       that of a stop of `verify`
+-- Working form.
+--     refusal_fault, device_fault, question_fault   the fault that a refusal of the program, of the device, or of a question is told as
+--     text_fault side r   that of a refusal of a text of `verify`
+--     claim_fault x       that of a stop of `verify`
+--     fault_of s          that of a stop
+use Rattle.std.specs.Prelude.{Option, None, Some}
 use Rattle.coupling_map.specs.declared.faults.DeviceFault.TheVariants as device_fault_is
 use Rattle.route_report.specs.declared.faults.Side.{Side}
 use Rattle.route_report.specs.declared.faults.Fault.{Fault}
@@ -16,6 +18,8 @@ use Rattle.qroute_top.specs.declared.stops.DeviceRefusal.{DeviceRefusal}
 use Rattle.qroute_top.specs.declared.stops.DeviceRefusal.TheVariants as device
 use Rattle.qroute_top.specs.declared.stops.QuestionRefusal.{QuestionRefusal}
 use Rattle.qroute_top.specs.declared.stops.QuestionRefusal.TheVariants as question
+use Rattle.qroute_top.specs.declared.stops.Stop.{Stop}
+use Rattle.qroute_top.specs.declared.stops.Stop.TheVariants as stop
 
 abbrev pub refusal_fault : ProgramRefusal → Fault
 refusal_fault refusal.TooLong = fault.Plain 60
@@ -63,3 +67,14 @@ claim_fault (claim.Trace line) = fault.Trace line
 claim_fault claim.Placed = fault.Placed
 claim_fault claim.Reads = fault.Reads
 claim_fault (claim.Edge operation) = fault.Edge operation
+
+abbrev pub fault_of : Stop → Option Fault
+fault_of stop.NoMemory = None
+fault_of stop.Words = Some fault.Words
+fault_of stop.Input = Some fault.Input
+fault_of (stop.Program r) = Some (refusal_fault r)
+fault_of stop.Shelf = Some fault.Shelf
+fault_of stop.Absent = Some fault.Absent
+fault_of (stop.Device r) = Some (device_fault r)
+fault_of (stop.Question r) = Some (question_fault r)
+fault_of (stop.Claim x) = Some (claim_fault x)

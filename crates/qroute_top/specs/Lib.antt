@@ -1,6 +1,6 @@
 -- ---- definitions that public clauses reach
 pub mod Devices
-pub mod Faults
+pub mod Told
 pub mod Questions
 pub mod WithSpares
 pub mod Claims
@@ -8,5 +8,6 @@ pub mod Delivered
 pub mod Causes
 -- ---- working forms
 pub mod Stops
+pub mod Faults
 pub mod Plans
 pub mod Emitted

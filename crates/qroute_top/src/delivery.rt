@@ -4,10 +4,10 @@ ghost use Rattle.std.specs.Prelude.{◌≡◌, ◌⊎◌, [], OnErr, OnOk, Some,
 ghost use Rattle.outside_io.specs.Bytes.{Gains, GainsPrefix, GainsUnlessFault};
 ghost use Rattle.outside_io.specs.Causes.{HasCause, Rose};
 ghost use Rattle.qasm_writer.specs.Outputs.{HasText, IsOutput};
-ghost use Rattle.route_report.specs.Faults.{fault_line, status_of};
-ghost use Rattle.route_report.specs.declared.faults.Fault.{Fault as Told};
-ghost use Rattle.qroute_top.specs.Causes.{fault_of, output_fault_line, stop_status};
-ghost use Rattle.qroute_top.specs.Faults.{claim_fault, device_fault, question_fault, refusal_fault, text_fault};
+ghost use Rattle.route_report.specs.Faults.{FaultRow, row_line};
+ghost use Rattle.qroute_top.specs.Causes.{output_fault_line, stop_status};
+ghost use Rattle.qroute_top.specs.Faults.{claim_fault, device_fault, fault_of, question_fault, refusal_fault, text_fault};
+ghost use Rattle.qroute_top.specs.Told.{row_of};
 ghost use Rattle.qroute_top.specs.Emitted.{IsEmitted, sent};
 ghost use Rattle.qroute_top.specs.Plans.{HasPlanned, HasAnswer, IsFitAnswer, has_line, has_text};
 ghost use Rattle.circuit_target.specs.Targets.{IsFit};
@@ -161,8 +161,8 @@ fn fault_of(stop: Stop) -> Option<Fault>
 pub fn tell<R: Sink>(alloc: Global, stop: Stop, report: &mut R) -> u8
     ensures status { (result ≡ 7) ⊎ (result ≡ stop_status stop) }
     ensures memory { result ≡ 7 → report.new ≡ report.old }
-    ensures told { (result ≡ 7) ⊎ ((f : Told) × (fault_of stop ≡ Some f) × (result ≡ status_of f)
-        × GainsUnlessFault (R.held report.old) (R.held report.new) (R.faults report.old) (R.faults report.new) (fault_line f)) }
+    ensures told { (result ≡ 7) ⊎ ((r : FaultRow) × (row_of stop ≡ Some r) × (result ≡ r.1)
+        × GainsUnlessFault (R.held report.old) (R.held report.new) (R.faults report.old) (R.faults report.new) (row_line r)) }
     ensures flushed { (result ≡ 7 → ⊥) → (Rose (R.faults report.old) (R.faults report.new) → ⊥) → R.flushed report.new ≡ true }
 {
     let Some(fault) = fault_of(stop) else {

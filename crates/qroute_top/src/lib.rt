@@ -23,7 +23,7 @@
 ghost use Rattle.std.specs.Prelude.{◌≡◌, ◌⊎◌, ◌≤◌, ℕ, List, Option, Some, None, IfSome, length, map, true, false, is_some};
 ghost use Rattle.outside_io.specs.Bytes.{Gains, GainsPrefix, GainsUnlessFault};
 ghost use Rattle.outside_io.specs.Causes.{Rose};
-ghost use Rattle.route_report.specs.Faults.{fault_line};
+ghost use Rattle.route_report.specs.Faults.{row_line};
 ghost use Rattle.route_report.specs.declared.faults.Side.TheVariants as Side;
 ghost use Rattle.program_reader.specs.Refusals.{IsRefusal};
 ghost use Rattle.program_reader.specs.Texts.{IsAcceptedText};
@@ -97,7 +97,7 @@ pub fn run<I: Source, F: Shelf, O: Sink, R: Sink>(
       shelf_before = F.faults shelf.old;
       shelf_after = F.faults shelf.new;
     }) result
-        (λ f. GainsUnlessFault (R.held report.old) (R.held report.new) (R.faults report.old) (R.faults report.new) (fault_line f)) }
+        (λ r. GainsUnlessFault (R.held report.old) (R.held report.new) (R.faults report.old) (R.faults report.new) (row_line r)) }
     ensures words_only { result ≡ 2 → (input.new ≡ input.old) × (shelf.new ≡ shelf.old) }
 
     // 2 exactly where the words mean no command; 5 only where the input failed.
