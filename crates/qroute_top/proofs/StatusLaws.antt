@@ -23,7 +23,7 @@ use Rattle.gate_inline.specs.declared.refusal.InlineRefusal.TheVariants as inlin
 use Rattle.gate_inline.specs.Inlined.{inline_code}
 use Rattle.qasm_check.specs.Refusals.{code as check_code}
 use Rattle.route_report.specs.Faults.{FaultRow, fault_row, status_of}
-use Rattle.route_report.specs.Refusals.{stops_with}
+use Rattle.route_report.specs.Refusals.{refusal_name, stops_with}
 use Rattle.route_report.specs.declared.faults.Fault.{Fault}
 use Rattle.route_report.specs.declared.faults.Side.{Side}
 use Rattle.route_report.specs.declared.faults.Fault.TheVariants as fault
@@ -31,7 +31,7 @@ use Rattle.qasm_writer.specs.Outputs.{HasText}
 use Rattle.qasm_writer.specs.declared.output.Output.{Output}
 use Rattle.qroute_top.specs.Causes.{claim_status, is_early_fault, stop_status}
 use Rattle.qroute_top.specs.Faults.{claim_fault, device_fault, fault_of, question_fault, refusal_fault, text_fault}
-use Rattle.qroute_top.specs.Told.{claim_row, device_row, program_row, question_row, row_of}
+use Rattle.qroute_top.specs.Told.{check_name, claim_row, device_row, inline_name, program_row, question_row, row_of}
 use Rattle.qroute_top.specs.declared.stops.ClaimStop.{ClaimStop}
 use Rattle.qroute_top.specs.declared.stops.ClaimStop.TheVariants as claim
 use Rattle.qroute_top.specs.declared.stops.DeviceRefusal.{DeviceRefusal}
@@ -131,6 +131,34 @@ status-stop (stop.Question r) f n e is = by_fault (question_fault r) f n 3 e is 
 status-stop (stop.Claim x) f n e is = by_fault (claim_fault x) f n (claim_status x) e is (claim_told x)
 
 -- the row of a stop is that of its fault
+check_names : (q : CheckRefusal) → check_name q ≡ refusal_name (check_code q)
+check_names check.Include = refl
+check_names check.NameTaken = refl
+check_names check.UnknownName = refl
+check_names check.WrongKind = refl
+check_names check.IndexRange = refl
+check_names check.EmptyRegister = refl
+check_names check.ParamCount = refl
+check_names check.QubitCount = refl
+check_names check.SizeDiffers = refl
+check_names check.RepeatedQubit = refl
+check_names check.Conditional = refl
+check_names check.Reset = refl
+check_names check.OpaqueApplied = refl
+check_names check.AfterMeasure = refl
+check_names check.TooManyQubits = refl
+check_names check.TooManyBits = refl
+
+inline_names : (q : InlineRefusal) → inline_name q ≡ refusal_name (inline_code q)
+inline_names inline.AngleForm = refl
+inline_names inline.AngleZero = refl
+inline_names inline.AngleRange = refl
+inline_names inline.AngleStep = refl
+inline_names inline.TooManyOps = refl
+
+row_same : {X : Type 0} (n m : List ℕ) (s t : ℕ) (x : X) → n ≡ m → s ≡ t → ◌≡◌ {A = List ℕ × ℕ × X} (n, s, x) (m, t, x)
+row_same n m s t x e f = λ i. (e i, f i, x)
+
 program_rows : (r : ProgramRefusal) → program_row None r ≡ fault_row (refusal_fault r)
 program_rows refusal.TooLong = refl
 program_rows (refusal.BadByte place) = refl
@@ -138,8 +166,8 @@ program_rows (refusal.Number place) = refl
 program_rows (refusal.Syntax place) = refl
 program_rows (refusal.Version place) = refl
 program_rows (refusal.Depth place) = refl
-program_rows (refusal.Check r) = refl
-program_rows (refusal.Inline r) = refl
+program_rows (refusal.Check r) = row_same _ _ _ _ _ (check_names r.refusal) (sym (check_status r.refusal))
+program_rows (refusal.Inline r) = row_same _ _ _ _ _ (inline_names r.refusal) (sym (inline_status r.refusal))
 
 text_rows : (s : Side) (r : ProgramRefusal) → program_row (Some s) r ≡ fault_row (text_fault s r)
 text_rows s refusal.TooLong = refl
@@ -148,8 +176,8 @@ text_rows s (refusal.Number place) = refl
 text_rows s (refusal.Syntax place) = refl
 text_rows s (refusal.Version place) = refl
 text_rows s (refusal.Depth place) = refl
-text_rows s (refusal.Check r) = refl
-text_rows s (refusal.Inline r) = refl
+text_rows s (refusal.Check r) = row_same _ _ _ _ _ (check_names r.refusal) (sym (check_status r.refusal))
+text_rows s (refusal.Inline r) = row_same _ _ _ _ _ (inline_names r.refusal) (sym (inline_status r.refusal))
 
 device_rows : (r : DeviceRefusal) → device_row r ≡ fault_row (device_fault r)
 device_rows device.TooLong = refl

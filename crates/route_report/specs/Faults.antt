@@ -2,7 +2,8 @@
 --   FaultRow      what is told of a fault: its name, its status, and what else
 --   no_more       nothing else is told
 --   number_told   a number under a key, beside what else is told
---   refusal_row   the row of a refusal: its code is told, which has a name and a status
+--   coded         the row of a refusal, whose code is told
+--   refusal_row   the row of the refusal of a code, which has a name and a status
 --   side_word     the word of one of the texts of `verify`
 --   of_text       what tells which text of `verify` it is, if it is one of these
 --   fault_row     the row of each fault
@@ -29,8 +30,11 @@ no_more = no_members
 abbrev pub number_told : List ℕ → ℕ → Members → Members
 number_told key n others = put key (json_whole n) others
 
+abbrev pub coded : List ℕ → ℕ → ℕ → Members → FaultRow
+coded name status code others = (name, status, number_told (codes "code") code others)
+
 abbrev pub refusal_row : ℕ → Members → FaultRow
-refusal_row code others = (refusal_name code, stops_with code, number_told (codes "code") code others)
+refusal_row code others = coded (refusal_name code) (stops_with code) code others
 
 abbrev pub side_word : Side → List ℕ
 side_word side.Source = codes "source"
