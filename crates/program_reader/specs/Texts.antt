@@ -8,9 +8,8 @@
 --   IsForSize r              it is that there is too much to write out
 --   IsTextFault text e       what may be told of a text of any length: such a refusal, or want of memory
 use Rattle.std.specs.Prelude.{◌≡◌, ℕ, List}
-use Rattle.qasm_lexer.specs.Tokens.{AreTokens, IsLexFault}
+use Rattle.qasm_lexer.specs.Tokens.{AreTokens, IsBadByte, IsBadNumber}
 use Rattle.qasm_lexer.specs.declared.Token.{Token}
-use Rattle.qasm_lexer.specs.declared.LexFault.TheVariants as lexing
 use Rattle.qasm_parser.specs.Parsing.{IsParseFault}
 use Rattle.qasm_parser.specs.Tree.{Tree}
 use Rattle.qasm_parser.specs.declared.ParseFault.{ParseFault}
@@ -35,8 +34,8 @@ IsUnparsed text fault = (tokens : List Token) × AreTokens text tokens × IsPars
 
 abbrev pub IsTextRefusal : List ℕ → ProgramRefusal → Type 0
 IsTextRefusal text TooLong = ⊥
-IsTextRefusal text (BadByte place) = IsLexFault text (lexing.BadByte place)
-IsTextRefusal text (Number place) = IsLexFault text (lexing.Number place)
+IsTextRefusal text (BadByte place) = IsBadByte text place
+IsTextRefusal text (Number place) = IsBadNumber text place
 IsTextRefusal text (Syntax place) = IsUnparsed text (parsing.Syntax place)
 IsTextRefusal text (Version place) = IsUnparsed text (parsing.Version place)
 IsTextRefusal text (Depth place) = IsUnparsed text (parsing.Depth place)
