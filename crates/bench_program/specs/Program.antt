@@ -32,13 +32,10 @@ target size c d = (c + 1 + d % (size - 1)) % size
 
 -- a gate takes the draws of its kind and of its wire, a CNOT also that of its target
 abbrev pub program : ℕ → ℕ → List ℕ → List Op
-program size zero ds = []
-program size (suc n) [] = []
-program size (suc n) (kind ∷ []) = []
-program size (suc n) (kind ∷ wire ∷ []) = []
 program size (suc n) (kind ∷ wire ∷ far ∷ ds) =
     if makes_cx size (kind % 8) then Cx (wire % size) (target size (wire % size) far) ∷ program size n ds
     else one_qubit (kind % 8) (wire % size) ∷ program size n (far ∷ ds)
+program size _ _ = []
 
 -- no gate takes more than three draws
 abbrev pub drawn : ℕ → ℕ → ℕ → List Op
