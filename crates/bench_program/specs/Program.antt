@@ -5,7 +5,7 @@
 --     target size c d         the target of a CNOT with control c, for the draw d
 --     program size n ds       n gates on so many wires, by the numbers drawn
 --     drawn start n size      the same by the numbers drawn from start on
-use Rattle.std.specs.Prelude.{ℕ, zero, suc, ◌+◌, ◌*◌, ◌-◌, ◌%◌, ◌==◌, ◌&&◌, nat_lt, Bool, List, [], ◌∷◌, if◌then◌else◌}
+use Rattle.std.specs.Prelude.{ℕ, suc, ◌+◌, ◌*◌, ◌-◌, ◌%◌, ◌==◌, ◌&&◌, nat_lt, Bool, List, [], ◌∷◌, if◌then◌else◌}
 use Rattle.unitary_model.specs.declared.Op.{Op}
 use Rattle.unitary_model.specs.declared.Op.TheVariants.{U, Cx}
 use Rattle.bench_program.specs.Draws.{draws}

@@ -1,8 +1,7 @@
 -- What is told of a trace that was verified.
 --   verdict_line  yes, the global phase in units of pi/4, and a line break
 --   placed_data first last phase        the qubit of each wire at first and at last, and the phase, as an object
---   placements_line first last phase    its line
---   verdict_text told first last phase  the line of yes, and behind it, where placements are told, theirs
+--   verdict_text told first last phase  the line of yes, and behind it, where placements are told, the line of theirs
 use Rattle.std.specs.Prelude.{ℕ, Bool, true, false, List, [], ◌∷◌, ◌++◌, codes, decimal}
 use Rattle.serde_json.specs.Data.{Data, member, no_members, object}
 use Rattle.route_report.specs.Compact.{line, json_whole, wholes}
@@ -16,9 +15,6 @@ placed_data first last phase = object
     (member (codes "initial") (wholes first)
     (member (codes "phase") (json_whole phase) no_members)))
 
-abbrev pub placements_line : List ℕ → List ℕ → ℕ → List ℕ
-placements_line first last phase = line (placed_data first last phase)
-
 abbrev pub verdict_text : Bool → List ℕ → List ℕ → ℕ → List ℕ
-verdict_text true first last phase = verdict_line phase ++ placements_line first last phase
+verdict_text true first last phase = verdict_line phase ++ line (placed_data first last phase)
 verdict_text false first last phase = verdict_line phase

@@ -2,7 +2,8 @@
 
 ghost use Rattle.std.specs.Prelude.{◌≡◌, IfOk};
 ghost use Rattle.serde_json.specs.View.{view};
-ghost use Rattle.route_report.specs.Verdicts.{placed_data, placements_line, verdict_line, verdict_text};
+ghost use Rattle.route_report.specs.Compact.{line};
+ghost use Rattle.route_report.specs.Verdicts.{placed_data, verdict_line, verdict_text};
 
 use crate::compact::{number_array, value_line};
 use itoa::Buffer;
@@ -39,7 +40,7 @@ fn placements_line(
     last: &[u32],
     phase: u8,
 ) -> Result<Vec<u8>, AllocError>
-    ensures { IfOk result (λ v. v.items ≡ placements_line first.now last.now phase) }
+    ensures { IfOk result (λ v. v.items ≡ line (placed_data first.now last.now phase)) }
 {
     let value = placed_value(alloc, first, last, phase)?;
     value_line(alloc, &value)
