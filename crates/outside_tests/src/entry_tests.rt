@@ -2,13 +2,11 @@
 
 use route_report::{Counts, Entry, check_line, entry_line};
 use std::alloc::{AllocError, Global};
-use test_rows::{Wrong, each_row, is_line, number, small, word};
+use test_rows::{Wrong, each_row, is_line, lines_below, number, small, word};
 
 /// Whether the second line of a row tells the counts of the first.
 fn is_count(alloc: Global, row: &str) -> Result<bool, AllocError> {
-    let Some((told, line)) = row.split_once('\n') else {
-        return Ok(false);
-    };
+    let (told, line) = lines_below(row);
     let counts = Counts {
         barriers: number(told, 0),
         bits: small(told, 1),
