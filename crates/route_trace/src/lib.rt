@@ -27,13 +27,12 @@ ghost use Rattle.trace_text.specs.Texts.{ended, lines_of};
 ghost use Rattle.unitary_model.specs.Placement.{IsPlacement};
 ghost use Rattle.route_trace.specs.EventLines.{AreThere, event_lines, trace_lines};
 
-pub use in_place::trace_in_place;
-
 use crate::lines::{push_head, push_one};
 use crate::replay::{Replay, push_events};
 use circuit_list::Circuit;
 use coupling_map::Device;
 use coupling_map::laws::distances_on_device;
+pub use in_place::trace_in_place;
 use rewrite_pass::Trace;
 use sabre_route::{Event, Routed};
 use std::alloc::{AllocError, Global};
