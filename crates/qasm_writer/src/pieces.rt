@@ -123,7 +123,8 @@ pub fn put_byte<S: Sink>(buffer: &mut PieceBuffer, sink: &mut S, byte: u8) -> Re
     if buffer.bytes.len() < PIECE {
         return Ok(());
     }
-    send_waiting(&mut buffer.bytes, sink)
+    send_waiting(&mut buffer.bytes, sink)?;
+    Ok(())
 }
 
 /// Puts a word.
