@@ -5,12 +5,16 @@
 --   finished            every sum is put, and the wires are brought to a matrix
 --   alone               a sum told by one wire alone
 --   none-told           a sum told by no wire is empty
+--   put-more, taken-more        one sum more is put
+--   gone-more           one row more no longer adds up to a sum
+--   flipped-here, flipped-other, retold-named   a wire taken out of those that tell a sum
+--   cleared, left-alone a row taken out, or none
 use Rattle.std.proofs.Common.{◌≡◌, ◌≢◌, ℕ, ◌+◌, ◌^◌, ◌<◌, ◌≤◌, Bool, true, false, cond, List, [], ◌∷◌, ◌++◌, length, map, get_or, set, refl, sym, subst, ap, ◌∙◌, arith, inl, inr, All}
-use Rattle.std.specs.Prelude.{nat_eq, slice_index}
+use Rattle.std.specs.Prelude.{bit_xor, nat_eq, slice_index}
 use Rattle.std.specs.Int.{bit_at}
-use Rattle.std.proofs.lemmas.Bool.{cases_eq, cases_lt, eq-eqb, ne_eqb}
-use Rattle.std.proofs.lemmas.List.{length-map}
-use Rattle.std.proofs.lemmas.Nat.Bits.{bit_at_above, bit_at-pow_same, bit_at-pow_other, same_from_bits}
+use Rattle.std.proofs.lemmas.Bool.{both_ways, cases_eq, cases_lt, eq-eqb, ne_eqb}
+use Rattle.std.proofs.lemmas.List.{get_or_past, length-map}
+use Rattle.std.proofs.lemmas.Nat.Bits.{bit_at_above, bit_at-lt, bit_at-pow_same, bit_at-pow_other, bit_at_xor, same_from_bits}
 use Rattle.gf2_linear.specs.Matrices.{added, added_all, identity_rows, IsPair}
 use Rattle.gf2_linear.specs.Rows.{combined, is_independent}
 use Rattle.gf2_linear.proofs.Combined.{combined-zero}
@@ -20,8 +24,9 @@ use Rattle.gf2_linear.proofs.MatrixLaws.{length-identity}
 use Rattle.gf2_linear.proofs.ProductLaws.{combined-identity}
 use Rattle.gf2_linear.proofs.Ranks.{Free-independent, independent-Free}
 use Rattle.gf2_linear.proofs.RunLaws.{free-identity, length-added, run-free}
+use Rattle.gf2_linear.proofs.WireLaws.{both_one}
 use Rattle.gray_synth.specs.SumSteps.{AreStandingSteps, IsStandingStep, IsSumSynthesis, final_rows, times_put}
-use Rattle.gray_synth.specs.UnderWay.{ArePut, AreRetold, IsUnderWay, StayPut, cnot_steps, first_sum, is_put_at, nth_sum, part_at, retold_part}
+use Rattle.gray_synth.specs.UnderWay.{ArePut, AreRetold, HasCleared, IsUnderWay, StayPut, cnot_steps, first_sum, is_put_at, no_sum, nth_sum, part_at, retold_part}
 use Rattle.gray_synth.specs.declared.steps.SumStep.{SumStep}
 use Rattle.gray_synth.specs.declared.steps.SumStep.TheVariants.{Cnot, Put}
 use Rattle.gray_synth.specs.declared.sums.Sum.{Sum}
@@ -151,3 +156,64 @@ alone n p t below one other = same_from_bits p (2 ^ t) (λ w. elim (cases_eq w t
 
 pub none-told : (n : ℕ) (sums : List ℕ) (x : Synthesis) (i : ℕ) → IsUnderWay n sums x → i < length sums → slice_index sums i ≢ 0 → part_at x.sums.items i ≡ 0 → ⊥
 none-told n sums x i h l filled e = filled (sym (h.parts i l) ∙ ap (combined x.rows) e ∙ combined-zero x.rows)
+
+-- ---- along a list
+pub put-more : (q i : ℕ) (first now next : List Sum) → StayPut first now → StayPut now next → (part_at now i ≡ 2 ^ q → is_put_at next i ≡ true) →
+    ((k : ℕ) → k < i → part_at first k ≡ 2 ^ q → is_put_at now k ≡ true) → (k : ℕ) → k < i + 1 → part_at first k ≡ 2 ^ q → is_put_at next k ≡ true
+put-more q i first now next f g here before k l e = elim (cases_eq k i) [
+  | inl d ↦ ap (is_put_at next) d ∙ here (f.parts i ∙ ap (part_at first) (sym d) ∙ e)
+  | inr n ↦ g.put k (before k (omega (arith, n)) e)
+]
+
+pub taken-more : (i : ℕ) (now next : List Sum) → ((k : ℕ) → is_put_at now k ≡ true → is_put_at next k ≡ true) → is_put_at next i ≡ true →
+    (k : ℕ) → (k < i → is_put_at now k ≡ true) → k < i + 1 → is_put_at next k ≡ true
+taken-more i now next stay here k before l = elim (cases_eq k i) [
+  | inl d ↦ ap (is_put_at next) d ∙ here
+  | inr n ↦ stay k (before (omega (arith, n)))
+]
+
+pub gone-more : (t c p q : ℕ) → ((c ≡ t → ⊥) → bit_at q c ≡ 0) → ((w : ℕ) → (w ≡ c → ⊥) → bit_at q w ≡ bit_at p w) → ((w : ℕ) → w < c → (w ≡ t → ⊥) → bit_at p w ≡ 0) →
+    (w : ℕ) → w < c + 1 → (w ≡ t → ⊥) → bit_at q w ≡ 0
+gone-more t c p q here others before w l n = elim (cases_eq w c) [
+  | inl d ↦ ap (bit_at q) d ∙ here (λ e. n (d ∙ e))
+  | inr m ↦ others w m ∙ before w (omega (arith, m)) n
+]
+
+-- ---- a wire taken out
+pub flipped-here : (c p : ℕ) → bit_at p c ≡ 1 → bit_at (bit_xor p (2 ^ c)) c ≡ 0
+flipped-here c p e = both_one p (2 ^ c) c e (bit_at-pow_same c)
+
+pub flipped-other : (c p w : ℕ) → (w ≡ c → ⊥) → bit_at (bit_xor p (2 ^ c)) w ≡ bit_at p w
+flipped-other c p w n =
+    let z : bit_at (2 ^ c) w ≡ 0 = bit_at-pow_other c w n in
+    let l : bit_at p w < 2 = bit_at-lt p w in
+    omega (arith, bit_at_xor p (2 ^ c) w, z, l)
+
+pub retold-named : (c t p : ℕ) → bit_at p t ≡ 1 → retold_part c t p ≡ bit_xor p (2 ^ c)
+retold-named c t p e = ap (λ b. cond b (bit_xor p (2 ^ c)) p) (eq-eqb (bit_at p t) 1 e)
+
+pub cleared : (i c t : ℕ) (x y z : Synthesis) → i < length x.sums.items → (c ≡ t → ⊥) → bit_at (part_at x.sums.items i) t ≡ 1 → bit_at (part_at x.sums.items i) c ≡ 1 →
+    y.rows ≡ x.rows → StayPut x.sums.items y.sums.items → length z.rows ≡ length y.rows → AreRetold c t y.sums.items z.sums.items → HasCleared i c t x z
+cleared i c t x y z li apart t_in c_in er stay size r = record {
+  size = size ∙ ap (λ (m : List ℕ). length m) er;
+  many = r.many ∙ stay.many;
+  has = ap (λ p. bit_at p t) part ∙ flipped-other c (part_at x.sums.items i) t (λ e. apart (sym e)) ∙ t_in;
+  gone = λ d. ap (λ p. bit_at p c) part ∙ flipped-here c (part_at x.sums.items i) c_in;
+  others = λ w n. ap (λ p. bit_at p w) part ∙ flipped-other c (part_at x.sums.items i) w n;
+  put = λ k h. still k (stay.put k h);
+}
+  where
+    within : i < length y.sums.items
+    within = subst (λ m. i < m) (sym stay.many) li
+
+    part : part_at z.sums.items i ≡ bit_xor (part_at x.sums.items i) (2 ^ c)
+    part = ap (λ (s : Sum). s.part) (r.each i within) ∙ ap (retold_part c t) (stay.parts i) ∙ retold-named c t (part_at x.sums.items i) t_in
+
+    still : (k : ℕ) → is_put_at y.sums.items k ≡ true → is_put_at z.sums.items k ≡ true
+    still k h = elim (cases_lt k (length y.sums.items)) [
+      | inl l ↦ ap (λ (s : Sum). s.is_put) (r.each k l) ∙ h
+      | inr g ↦ absurd (both_ways (is_put_at y.sums.items k) (ap (λ (s : Sum). s.is_put) (get_or_past y.sums.items k no_sum g)) h)
+    ]
+
+pub left-alone : (i c : ℕ) (t : ℕ) (x : Synthesis) → bit_at (part_at x.sums.items i) t ≡ 1 → ((c ≡ t → ⊥) → bit_at (part_at x.sums.items i) c ≡ 0) → HasCleared i c t x x
+left-alone i c t x t_in gone = record { size = refl; many = refl; has = t_in; gone = gone; others = λ w n. refl; put = λ k h. h }

@@ -1,0 +1,3 @@
+use Rattle.std.proofs.Common.{◌≡◌, arith}
+use Rattle.gray_synth.proofs.UnderWayLaws.{cleared, left-alone}
+use Rattle.gray_synth.proofs.synthesis.Synthesis.clear.Goals as goal
