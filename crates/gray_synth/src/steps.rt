@@ -13,10 +13,7 @@ pub enum SumStep {
 }
 
 /// Puts CNOTs (control, target) behind the steps.
-pub(crate) fn push_cnots(
-    steps: &mut Vec<SumStep>,
-    pairs: &[(u32, u32)],
-) -> Result<(), AllocError>
+pub(crate) fn push_cnots(steps: &mut Vec<SumStep>, pairs: &[(u32, u32)]) -> Result<(), AllocError>
     ensures ok { OnOk result (steps.new.items ≡ steps.old.items ++ cnot_steps pairs.now) }
 {
     'pairs: for pair in pairs {
